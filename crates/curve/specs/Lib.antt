@@ -1,1 +1,5 @@
+pub mod Answers
+pub mod Faults
+pub mod Limits
 pub mod Meaning
+pub mod Squares

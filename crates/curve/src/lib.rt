@@ -1,23 +1,30 @@
-// What a cost curve is: a ground, its cost at level 0, and the step from each level to the next.
+// What a cost curve is: a ground, which is its cost at level 0, and a step at each level, which is what one level more costs.
+pub mod fault;
+pub mod limits;
+mod scaling;
+pub mod square;
+
 ghost use mathlib.Core.Path.{_≡_};
-ghost use Prim.Native.Nat.{ℕ, _<_, min, suc};
+ghost use Prim.Native.Nat.{ℕ, _≤_, _<_, min, suc};
 ghost use lib.IntN.{ℤ, pos, negℤ};
 ghost use lib.Signed.{_≤ℤ_};
+ghost use Rattle.curve.specs.Limits.{last-step, step-limit, ground-limit};
 
 pub trait Curve {
     ghost ground: { Self → ℤ };
 
     ghost steps: { Self → ℕ → ℤ };
 
-    law rising: { (c : Self) (v : ℕ) → suc v < 1023 → steps c v ≤ℤ steps c (suc v) };
+    law rising: { (c : Self) (v : ℕ) → v < last-step → steps c v ≤ℤ steps c (suc v) };
 
-    law step_bounds: { (c : Self) (v : ℕ) → v < 1023 → (negℤ (pos 1000000000) ≤ℤ steps c v) × (steps c v ≤ℤ pos 1000000000) };
+    law bounded: { (c : Self) (v : ℕ) → v ≤ last-step → (negℤ (pos step-limit) ≤ℤ steps c v) × (steps c v ≤ℤ pos step-limit) };
 
-    law ground_bounds: { (c : Self) → (negℤ (pos 1000000000000) ≤ℤ ground c) × (ground c ≤ℤ pos 1000000000000) };
+    law grounded: { (c : Self) → (negℤ (pos ground-limit) ≤ℤ ground c) × (ground c ≤ℤ pos ground-limit) };
 
     fn ground(&self) -> i64
         ensures { λ r. ⌜ r ≡ ground (now (self .entry)) ⌝ };
 
+    // Above the last step the answer is the last step.
     fn step(&self, level: u16) -> i64
-        ensures { λ r. ⌜ r ≡ steps (now (self .entry)) (min level 1022) ⌝ };
+        ensures { λ r. ⌜ r ≡ steps (now (self .entry)) (min level last-step) ⌝ };
 }

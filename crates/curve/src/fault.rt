@@ -1,0 +1,35 @@
+// Why a curve cannot be made.
+ghost use mathlib.Core.Path.{_≡_};
+ghost use Rattle.curve.specs.Faults.{fault-number};
+
+#[derive(Clone, Copy, PartialEq, Eq, Debug)]
+pub enum CurveFault {
+    Weight,
+    Target,
+    Edges,
+    Rate,
+    KneeCount,
+    KneeLevels,
+    KneeSteps,
+    Ground,
+    Sum,
+}
+
+impl CurveFault {
+    // The number by which a refusal is told.
+    pub fn number(self) -> u8
+        ensures { λ r. ⌜ r ≡ fault-number self ⌝ }
+    {
+        match self {
+            CurveFault::Weight => 1,
+            CurveFault::Target => 2,
+            CurveFault::Edges => 3,
+            CurveFault::Rate => 4,
+            CurveFault::KneeCount => 5,
+            CurveFault::KneeLevels => 6,
+            CurveFault::KneeSteps => 7,
+            CurveFault::Ground => 8,
+            CurveFault::Sum => 9,
+        }
+    }
+}

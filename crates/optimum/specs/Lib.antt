@@ -1,3 +1,0 @@
-pub mod Plans
-pub mod Leans
-pub mod Theorems
