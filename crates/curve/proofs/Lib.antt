@@ -1,3 +1,4 @@
+pub mod Bands
 pub mod Costs
 pub mod Products
 pub mod Squares

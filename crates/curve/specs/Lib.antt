@@ -1,4 +1,5 @@
 pub mod Answers
+pub mod Bands
 pub mod Faults
 pub mod Limits
 pub mod Meaning

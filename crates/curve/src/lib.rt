@@ -1,4 +1,5 @@
 // What a cost curve is: a ground, which is its cost at level 0, and a step at each level, which is what one level more costs.
+pub mod band;
 pub mod fault;
 pub mod limits;
 mod scaling;
