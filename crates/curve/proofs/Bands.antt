@@ -37,14 +37,6 @@ band-costs p q c d v apart = cost-is (band-ground p c) (band-step p q c d) (band
         let not-above : v < q → d * (suc v - q) ≡ d * (v - q) = λ h. rate-same d (suc v - q) (v - q) (omega arith) in
         grind (arith, ints, tells)
 
--- steps never fall
-pub band-rising : (p q c d v : ℕ) → band-step p q c d v ≤ℤ band-step p q c d (suc v)
-band-rising p q c d v = grind (arith, ints, tells)
-
--- a step is a rate at most
-pub band-bounded : (p q c d v : ℕ) → c ≤ rate-limit → d ≤ rate-limit → (negℤ (pos step-limit) ≤ℤ band-step p q c d v) × (band-step p q c d v ≤ℤ pos step-limit)
-band-bounded p q c d v slow mild = (grind (arith, ints, tells), grind (arith, ints, tells))
-
 -- the ground keeps within 900,000,000 times 1,023
 pub band-grounded : (p c : ℕ) → p ≤ top → c ≤ rate-limit → (negℤ (pos ground-limit) ≤ℤ band-ground p c) × (band-ground p c ≤ℤ pos ground-limit)
 band-grounded p c inside slow = let small = mul-le c p rate-limit top slow inside in (omega (arith, ints), omega (arith, ints))

@@ -1,4 +1,6 @@
 pub mod Bands
 pub mod Costs
+pub mod KneeSteps
 pub mod Products
 pub mod Squares
+pub mod Tests

@@ -1,6 +1,7 @@
 pub mod Answers
 pub mod Bands
 pub mod Faults
+pub mod KneeSteps
 pub mod Limits
 pub mod Meaning
 pub mod Squares

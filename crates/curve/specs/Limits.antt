@@ -1,5 +1,8 @@
 -- Each number of the rules for curves, once.
+use mathlib.Core.Bool.{Bool, _&&_}
 use Prim.Native.Nat.{ℕ}
+use lib.IntN.{ℤ, pos, negℤ}
+use lib.Signed.{leZ}
 
 -- the warmest level
 abbrev pub top : ℕ
@@ -28,3 +31,7 @@ rate-limit = 900000000
 -- the most knees of a knees curve
 abbrev pub knee-limit : ℕ
 knee-limit = 6
+
+-- a number lies from minus a limit to that limit
+abbrev pub held-by : ℕ → ℤ → Bool
+held-by limit z = leZ (negℤ (pos limit)) z && leZ z (pos limit)

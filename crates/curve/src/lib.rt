@@ -1,6 +1,8 @@
 // What a cost curve is: a ground, which is its cost at level 0, and a step at each level, which is what one level more costs.
 pub mod band;
 pub mod fault;
+pub mod knees;
+mod knots;
 pub mod limits;
 mod scaling;
 pub mod square;
