@@ -1,7 +1,12 @@
 -- What the steps add up to, for every kind of curve.
 use mathlib.Core.Path.{_≡_, refl, sym, _∙_, ap}
-use Prim.Native.Nat.{ℕ, zero, suc}
+use Prim.Native.Nat.{ℕ, zero, suc, _≤_, _<_}
+use native.Mathlib.Decide.{decLe}
+use native.Mathlib.Omega.{arith}
 use lib.IntN.{ℤ, pos, _+ℤ_, +ℤ-idr, +ℤ-assoc}
+use lib.Signed.{_≤ℤ_, ≤ℤ-refl}
+use Rattle.std.proofs.shelf.Signed.{ints}
+use Rattle.curve.specs.Limits.{last-step}
 use Rattle.curve.specs.Meaning.{climb, cost}
 
 -- the cost at level 0 is the ground
@@ -19,3 +24,14 @@ pub cost-is : (ground : ℤ) (steps formula : ℕ → ℤ) → formula zero ≡ 
 cost-is ground steps formula begins grows zero = cost-none ground steps ∙ sym begins
 cost-is ground steps formula begins grows (suc v) =
     cost-more ground steps v ∙ ap (λ (c : ℤ). c +ℤ steps v) (cost-is ground steps formula begins grows v) ∙ sym (grows v)
+
+-- steps that never fall from one level to the next never fall from a level to a warmer one
+pub rising-between : (steps : ℕ → ℤ) → ((v : ℕ) → v < last-step → steps v ≤ℤ steps (suc v)) → (v w : ℕ) → v ≤ w → w ≤ last-step → steps v ≤ℤ steps w
+rising-between steps rising v zero le within = let e : v ≡ zero = omega arith in rw e (≤ℤ-refl (steps zero))
+rising-between steps rising v (suc w) le within =
+    let step = rising w (omega arith) in
+    cases (λ h. rising-between steps rising v w h (omega arith)) step (decLe v w)
+  where
+    cases : (v ≤ w → steps v ≤ℤ steps w) → steps w ≤ℤ steps (suc w) → Dec (v ≤ w) → steps v ≤ℤ steps (suc w)
+    cases before step (yes h) = omega (arith, ints, before h)
+    cases before step (no h) = let e : v ≡ suc w = omega arith in rw e (≤ℤ-refl (steps (suc w)))

@@ -4,4 +4,5 @@ pub mod Faults
 pub mod KneeSteps
 pub mod Limits
 pub mod Meaning
+pub mod Pairs
 pub mod Squares

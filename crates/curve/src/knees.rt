@@ -9,8 +9,8 @@ ghost use Rattle.curve.specs.KneeSteps.{rise-from, never-fall, knees-fault, kn
 ghost use Rattle.curve.specs.Limits.{held-by, ground-limit, rate-limit, knee-limit};
 use crate::Curve;
 use crate::fault::CurveFault;
-use crate::knots::{keep, never_falls, rises, step_at, within_knee_limit};
-use crate::limits::{GROUND_LIMIT, KNEE_LIMIT, LAST_STEP};
+use crate::knots::{keep, never_falls, rises, step_at};
+use crate::limits::{GROUND_LIMIT, KNEE_LIMIT, KNEE_STEP_LIMIT, LAST_STEP, held_by};
 
 #[derive(Clone, Copy)]
 pub struct Knees {
@@ -37,10 +37,10 @@ impl Knees {
         if !rises(&levels[0..count]) {
             return Err(CurveFault::KneeLevels);
         }
-        if !within_knee_limit(first) || !never_falls(first, &steps[0..count]) {
+        if !held_by(KNEE_STEP_LIMIT, first as i64) || !never_falls(first, &steps[0..count]) {
             return Err(CurveFault::KneeSteps);
         }
-        if ground < -GROUND_LIMIT || ground > GROUND_LIMIT {
+        if !held_by(GROUND_LIMIT, ground) {
             return Err(CurveFault::Ground);
         }
         Ok(Knees {

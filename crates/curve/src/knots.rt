@@ -1,10 +1,10 @@
 // The tests on the knees of a curve, and what they answer.
 ghost use mathlib.Core.Path.{_≡_};
-ghost use Prim.Native.Nat.{_≤_, min};
+ghost use Prim.Native.Nat.{_≤_};
 ghost use lib.IntN.{pos};
 ghost use Rattle.curve.specs.KneeSteps.{rise-from, never-fall, step-at, kept};
-ghost use Rattle.curve.specs.Limits.{held-by, rate-limit, knee-limit};
-use crate::limits::{KNEE_LIMIT, KNEE_STEP_LIMIT, LAST_STEP};
+ghost use Rattle.curve.specs.Limits.{knee-limit};
+use crate::limits::{KNEE_STEP_LIMIT, LAST_STEP, held_by};
 
 pub(crate) fn rises(levels: &[u16]) -> bool
     ensures { λ r. ⌜ r ≡ rise-from 0 (now (levels .entry)) ⌝ }
@@ -19,18 +19,12 @@ pub(crate) fn rises(levels: &[u16]) -> bool
     true
 }
 
-pub(crate) fn within_knee_limit(step: i32) -> bool
-    ensures { λ r. ⌜ r ≡ held-by rate-limit step ⌝ }
-{
-    step >= -KNEE_STEP_LIMIT && step <= KNEE_STEP_LIMIT
-}
-
 pub(crate) fn never_falls(first: i32, steps: &[i32]) -> bool
     ensures { λ r. ⌜ r ≡ never-fall first (now (steps .entry)) ⌝ }
 {
     let mut before = first;
     for step in steps {
-        if *step < before || !within_knee_limit(*step) {
+        if *step < before || !held_by(KNEE_STEP_LIMIT, *step as i64) {
             return false;
         }
         before = *step;

@@ -4,6 +4,7 @@ pub mod fault;
 pub mod knees;
 mod knots;
 pub mod limits;
+pub mod pair;
 mod scaling;
 pub mod square;
 

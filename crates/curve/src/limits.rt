@@ -1,4 +1,8 @@
 // Each number of the rules for curves, once.
+ghost use mathlib.Core.Bool.{_&&_};
+ghost use mathlib.Core.Path.{_≡_};
+ghost use lib.IntN.{pos, negℤ};
+ghost use lib.Signed.{_≤ℤ_, leZ};
 
 // The warmest level.
 pub const TOP: u16 = 1023;
@@ -19,7 +23,15 @@ pub const WEIGHT_LIMIT: u32 = 400_000;
 pub const RATE_LIMIT: u32 = 900_000_000;
 
 // The largest step of a knees curve in size.
-pub const KNEE_STEP_LIMIT: i32 = 900_000_000;
+pub const KNEE_STEP_LIMIT: i64 = 900_000_000;
 
 // The most knees of a knees curve.
 pub const KNEE_LIMIT: usize = 6;
+
+// Whether a number lies from minus a limit to that limit.
+pub(crate) fn held_by(limit: i64, number: i64) -> bool
+    requires { ⌜ pos 0 ≤ℤ limit ⌝ }
+    ensures { λ r. ⌜ r ≡ (leZ (negℤ limit) number && leZ number limit) ⌝ }
+{
+    number >= -limit && number <= limit
+}

@@ -14,7 +14,7 @@ ghost-result c =
         search needs,
         (
           search (needs, take-kept, c .keep .ensures, c .rises .ensures),
-          (search (needs, take-kept, toZ-ofZ, c .keep-2 .ensures, c .never-falls .ensures, c .within-knee-limit .ensures), (grind (arith, ints, tells), tt))
+          (search (needs, take-kept, toZ-ofZ, c .keep-2 .ensures, c .never-falls .ensures, c .held-by .ensures), (grind (arith, ints, tells), tt))
         )
       )
     )
