@@ -1,12 +1,12 @@
 -- What the steps add up to, for every kind of curve.
 use mathlib.Core.Path.{_≡_, refl, sym, _∙_, ap}
-use Prim.Native.Nat.{ℕ, zero, suc, _≤_, _<_}
+use Prim.Native.Nat.{ℕ, zero, suc, _+_, _*_, _≤_, _<_}
 use native.Mathlib.Decide.{decLe}
 use native.Mathlib.Omega.{arith}
-use lib.IntN.{ℤ, pos, _+ℤ_, +ℤ-idr, +ℤ-assoc}
+use lib.IntN.{ℤ, pos, negℤ, _+ℤ_, +ℤ-idr, +ℤ-assoc}
 use lib.Signed.{_≤ℤ_, ≤ℤ-refl}
 use Rattle.std.proofs.shelf.Signed.{ints}
-use Rattle.curve.specs.Limits.{last-step}
+use Rattle.curve.specs.Limits.{top, last-step, step-limit, ground-limit}
 use Rattle.curve.specs.Meaning.{climb, cost}
 
 -- the cost at level 0 is the ground
@@ -35,3 +35,16 @@ rising-between steps rising v (suc w) le within =
     cases : (v ≤ w → steps v ≤ℤ steps w) → steps w ≤ℤ steps (suc w) → Dec (v ≤ w) → steps v ≤ℤ steps (suc w)
     cases before step (yes h) = omega (arith, ints, before h)
     cases before step (no h) = let e : v ≡ suc w = omega arith in rw e (≤ℤ-refl (steps (suc w)))
+
+-- a cost lies within the limit of the ground and the limit of a step for each level
+pub cost-bounded :
+    (ground : ℤ) (steps : ℕ → ℤ) →
+    (negℤ (pos ground-limit) ≤ℤ ground) × (ground ≤ℤ pos ground-limit) →
+    ((v : ℕ) → v ≤ last-step → (negℤ (pos step-limit) ≤ℤ steps v) × (steps v ≤ℤ pos step-limit)) →
+    (v : ℕ) → v ≤ top → (negℤ (pos (ground-limit + v * step-limit)) ≤ℤ cost ground steps v) × (cost ground steps v ≤ℤ pos (ground-limit + v * step-limit))
+cost-bounded ground steps grounded bounded zero within = let none = cost-none ground steps in (omega (arith, ints), omega (arith, ints))
+cost-bounded ground steps grounded bounded (suc v) within =
+    let before = cost-bounded ground steps grounded bounded v (omega arith) in
+    let more = cost-more ground steps v in
+    let step = bounded v (omega arith) in
+    (omega (arith, ints), omega (arith, ints))

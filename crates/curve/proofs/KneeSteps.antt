@@ -1,5 +1,5 @@
 -- The steps of a knees curve: where they end, and that they keep the laws.
-use mathlib.Core.Path.{_≡_, refl, sym, _∙_, ap}
+use mathlib.Core.Path.{_≡_, refl, sym, _∙_, ap, ap₂}
 use mathlib.Core.List.{List, [], _∷_}
 use mathlib.Core.Logic.{_⊎_, inl, inr}
 use mathlib.Core.Bool.{Bool, true, false, cond, _&&_}
@@ -9,11 +9,12 @@ use lib.Dec.{leb}
 use lib.ListN.{take, drop, length, replicate, length-take}
 use lib.Seq.{take-append-le, take-take}
 use lib.IntN.{ℤ, pos, negℤ}
-use lib.Signed.{_≤ℤ_, leZ}
+use lib.Signed.{_≤ℤ_, leZ, ≤ℤ-refl}
 use Rattle.std.proofs.shelf.Signed.{ints}
 use Rattle.std.proofs.shelf.Ways.{tells}
-use Rattle.curve.specs.Limits.{held-by, rate-limit, knee-limit}
-use Rattle.curve.specs.KneeSteps.{step-at, never-fall, kept}
+use Rattle.curve.specs.Limits.{held-by, rate-limit, step-limit, knee-limit}
+use Rattle.curve.specs.KneeSteps.{step-at, never-fall, kept, knees-step}
+use Rattle.curve.proofs.Tests.{and-left, and-right, bounds-of-held}
 
 -- past the last knee nothing changes the step
 pub step-at-end : (v : ℕ) (first : ℤ) (ls : List ℕ) (ss : List ℤ) → (ls ≡ []) ⊎ (ss ≡ []) → step-at v first ls ss ≡ first
@@ -51,3 +52,22 @@ step-at-held v first (l ∷ ls) (s ∷ ss) held fair =
 pub take-kept : {X : Type 0} (count : ℕ) (xs : List X) (nought : X) → count ≤ length xs → take count (kept count xs nought) ≡ take count xs
 take-kept count xs nought h =
     take-append-le count (take count xs) (drop count (replicate knee-limit nought)) (simp length-take (omega arith)) ∙ take-take count count xs (omega arith)
+
+-- the steps look only at the numbers that count
+pub knees-kept : (first : ℤ) (count : ℕ) (levels : List ℕ) (steps : List ℤ) (v : ℕ) → count ≤ length levels → count ≤ length steps → knees-step first count (kept count levels 0) (kept count steps (pos 0)) v ≡ knees-step first count levels steps v
+unfolding knees-step
+knees-kept first count levels steps v l s = ap₂ (step-at v first) (take-kept count levels 0 l) (take-kept count steps (pos 0) s)
+
+-- steps never fall
+pub knees-rising : (first : ℤ) (count : ℕ) (levels : List ℕ) (steps : List ℤ) (v : ℕ) → (held-by rate-limit first && never-fall first (take count steps)) ≡ true → knees-step first count levels steps v ≤ℤ knees-step first count levels steps (suc v)
+unfolding knees-step
+knees-rising first count levels steps v fair =
+    step-at-rising v (suc v) first first (take count levels) (take count steps) (omega arith) (≤ℤ-refl first) (and-right (held-by rate-limit first) _ fair)
+
+-- steps keep within the limit of the laws
+pub knees-bounded : (first : ℤ) (count : ℕ) (levels : List ℕ) (steps : List ℤ) (v : ℕ) → (held-by rate-limit first && never-fall first (take count steps)) ≡ true → (negℤ (pos step-limit) ≤ℤ knees-step first count levels steps v) × (knees-step first count levels steps v ≤ℤ pos step-limit)
+unfolding knees-step
+knees-bounded first count levels steps v fair =
+    let held = step-at-held v first (take count levels) (take count steps) (and-left (held-by rate-limit first) _ fair) (and-right (held-by rate-limit first) _ fair) in
+    let bounds = bounds-of-held rate-limit (step-at v first (take count levels) (take count steps)) held in
+    (omega (arith, ints), omega (arith, ints))

@@ -5,3 +5,4 @@ pub mod Pairs
 pub mod Products
 pub mod Squares
 pub mod Tests
+pub mod Unless

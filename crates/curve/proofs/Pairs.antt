@@ -11,7 +11,7 @@ use Rattle.std.proofs.shelf.Ways.{tells, same-from-decides, decides-below-and}
 use Rattle.std.specs.Orderings.{Decides}
 use Rattle.curve.specs.Limits.{top, last-step, step-limit, ground-limit, held-by}
 use Rattle.curve.specs.Pairs.{hold, all-below, step-fits, pair-step, sums-fit}
-use Rattle.curve.proofs.Tests.{and-left, and-right, both, le-of-test, test-of-le}
+use Rattle.curve.proofs.Tests.{and-left, and-right, both, le-of-test, held-of-bounds}
 use Rattle.curve.proofs.Costs.{rising-between}
 
 -- holding keeps the order
@@ -21,10 +21,6 @@ hold-le limit x y h = omega (arith, ints, clamps)
 -- what fits is left alone
 pub hold-same : (limit : ℕ) (z : ℤ) → held-by limit z ≡ true → hold limit z ≡ z
 hold-same limit z h = grind (arith, ints, clamps, tells)
-
--- what lies between the limits passes the test
-held-between : (limit : ℕ) (z : ℤ) → negℤ (pos limit) ≤ℤ z → z ≤ℤ pos limit → held-by limit z ≡ true
-held-between limit z low high = both (test-of-le _ _ low) (test-of-le _ _ high)
 
 -- steps that never fall
 abbrev pub Rising : (ℕ → ℤ) → Type 0
@@ -52,7 +48,7 @@ between-ends s t rs rt e v h =
     let t-high = rising-between t rt v last-step (omega arith) (omega arith) in
     let low = le-of-test (negℤ (pos step-limit)) (s 0 +ℤ t 0) (and-left (low-fits s t) (high-fits s t) e) in
     let high = le-of-test (s last-step +ℤ t last-step) (pos step-limit) (and-right (low-fits s t) (high-fits s t) e) in
-    held-between step-limit (s v +ℤ t v) (omega (arith, ints)) (omega (arith, ints))
+    held-of-bounds step-limit (s v +ℤ t v) (omega (arith, ints)) (omega (arith, ints))
 
 -- where each step fits, both ends do
 ends-of-all : (s t : ℕ → ℤ) → ((v : ℕ) → v < top → step-fits s t v ≡ true) → (low-fits s t && high-fits s t) ≡ true

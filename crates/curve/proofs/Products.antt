@@ -16,7 +16,7 @@ pub times-sum : (w : ℕ) (x y : ℤ) → pos w *ℤ (x +ℤ y) ≡ pos w *ℤ x
 times-sum zero x y = rw (zero-*ℤ (x +ℤ y), zero-*ℤ x, zero-*ℤ y)
 times-sum (suc w) x y =
     rw (times-more w (x +ℤ y), times-more w x, times-more w y, times-sum w x y)
-      (sums (pos w *ℤ x) (pos w *ℤ y) x y)
+    (sums (pos w *ℤ x) (pos w *ℤ y) x y)
   where
     sums : (a b c d : ℤ) → a +ℤ b +ℤ (c +ℤ d) ≡ a +ℤ c +ℤ (b +ℤ d)
     sums a b c d = omega (arith, ints)

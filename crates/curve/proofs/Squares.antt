@@ -17,7 +17,7 @@ use Rattle.curve.proofs.Products.{times-sum, times-le, times-within}
 square-next : (d : ℤ) → (d +ℤ pos 1) *ℤ (d +ℤ pos 1) ≡ d *ℤ d +ℤ (pos 2 *ℤ d +ℤ pos 1)
 square-next d =
     rw (+ℤ-one d)
-      (sucℤ-*ℤ d (sucℤ d) ∙ ap (λ (z : ℤ). z +ℤ sucℤ d) (*ℤ-comm d (sucℤ d) ∙ sucℤ-*ℤ d d) ∙ sums (d *ℤ d) d (sucℤ d) (sym (+ℤ-one d)))
+    (sucℤ-*ℤ d (sucℤ d) ∙ ap (λ (z : ℤ). z +ℤ sucℤ d) (*ℤ-comm d (sucℤ d) ∙ sucℤ-*ℤ d d) ∙ sums (d *ℤ d) d (sucℤ d) (sym (+ℤ-one d)))
   where
     sums : (s d e : ℤ) → e ≡ d +ℤ pos 1 → s +ℤ d +ℤ e ≡ s +ℤ (pos 2 *ℤ d +ℤ pos 1)
     sums s d e next = omega (arith, ints)

@@ -22,16 +22,18 @@ abbrev pub never-fall : ℤ → List ℤ → Bool
 never-fall before [] = true
 never-fall before (step ∷ steps) = leZ before step && held-by rate-limit step && never-fall step steps
 
--- why it cannot be made, with the numbers of the knees that count
+-- the rules in their order, with the numbers of the knees that count
+abbrev pub knees-rules : ℤ → ℤ → ℕ → List ℕ → List ℤ → List (Bool × CurveFault)
+knees-rules ground first count levels steps =
+    (leb 1 count && leb count knee-limit, KneeCount)
+    ∷ (rise-from 0 (take count levels), KneeLevels)
+    ∷ (held-by rate-limit first && never-fall first (take count steps), KneeSteps)
+    ∷ (held-by ground-limit ground, Ground)
+    ∷ []
+
+-- why it cannot be made
 abbrev pub knees-fault : ℤ → ℤ → ℕ → List ℕ → List ℤ → Option CurveFault
-knees-fault ground first count levels steps =
-    broken (
-      (leb 1 count && leb count knee-limit, KneeCount)
-      ∷ (rise-from 0 (take count levels), KneeLevels)
-      ∷ (held-by rate-limit first && never-fall first (take count steps), KneeSteps)
-      ∷ (held-by ground-limit ground, Ground)
-      ∷ []
-    )
+knees-fault ground first count levels steps = broken (knees-rules ground first count levels steps)
 
 -- the step that holds at v: that of the last knee at or below v, and before any knee the first step
 abbrev pub step-at : ℕ → ℤ → List ℕ → List ℤ → ℤ

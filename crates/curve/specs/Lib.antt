@@ -6,3 +6,4 @@ pub mod Limits
 pub mod Meaning
 pub mod Pairs
 pub mod Squares
+pub mod WrittenCurves

@@ -8,7 +8,9 @@ ghost use Rattle.curve.specs.Limits.{top, rate-limit};
 ghost use Rattle.curve.specs.Meaning.{cost};
 use crate::Curve;
 use crate::fault::CurveFault;
-use crate::limits::{LAST_STEP, RATE_LIMIT, TOP};
+use crate::limits::LAST_STEP;
+use crate::limits::RATE_LIMIT;
+use crate::limits::TOP;
 use crate::scaling::times;
 
 #[derive(Clone, Copy)]
@@ -34,7 +36,12 @@ impl Band {
         if cold_rate > RATE_LIMIT || warm_rate > RATE_LIMIT {
             return Err(CurveFault::Rate);
         }
-        Ok(Band { cold, warm, cold_rate, warm_rate })
+        Ok(Band {
+            cold,
+            warm,
+            cold_rate,
+            warm_rate,
+        })
     }
 }
 

@@ -4,7 +4,9 @@ ghost use Prim.Native.Nat.{_≤_};
 ghost use lib.IntN.{pos};
 ghost use Rattle.curve.specs.KneeSteps.{rise-from, never-fall, step-at, kept};
 ghost use Rattle.curve.specs.Limits.{knee-limit};
-use crate::limits::{KNEE_STEP_LIMIT, LAST_STEP, held_by};
+use crate::limits::KNEE_STEP_LIMIT;
+use crate::limits::LAST_STEP;
+use crate::limits::held_by;
 
 pub(crate) fn rises(levels: &[u16]) -> bool
     ensures { λ r. ⌜ r ≡ rise-from 0 (now (levels .entry)) ⌝ }

@@ -1,5 +1,6 @@
 // What a cost curve is: a ground, which is its cost at level 0, and a step at each level, which is what one level more costs.
 pub mod band;
+pub mod cost;
 pub mod fault;
 pub mod knees;
 mod knots;
@@ -7,6 +8,7 @@ pub mod limits;
 pub mod pair;
 mod scaling;
 pub mod square;
+pub mod written;
 
 ghost use mathlib.Core.Path.{_≡_};
 ghost use Prim.Native.Nat.{ℕ, _≤_, _<_, min, suc};

@@ -8,7 +8,10 @@ ghost use Rattle.curve.specs.Limits.{last-step};
 ghost use Rattle.curve.specs.Pairs.{pair-fault, pair-ground, pair-step, sums-fit};
 use crate::Curve;
 use crate::fault::CurveFault;
-use crate::limits::{GROUND_LIMIT, LAST_STEP, STEP_LIMIT, held_by};
+use crate::limits::GROUND_LIMIT;
+use crate::limits::LAST_STEP;
+use crate::limits::STEP_LIMIT;
+use crate::limits::held_by;
 
 #[derive(Clone, Copy)]
 pub struct Pair<A, B> {

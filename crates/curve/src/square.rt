@@ -8,7 +8,9 @@ ghost use Rattle.curve.specs.Meaning.{cost};
 ghost use Rattle.curve.specs.Squares.{square-fault, square-cost, square-ground, square-step};
 use crate::Curve;
 use crate::fault::CurveFault;
-use crate::limits::{LAST_STEP, TOP, WEIGHT_LIMIT};
+use crate::limits::LAST_STEP;
+use crate::limits::TOP;
+use crate::limits::WEIGHT_LIMIT;
 use crate::scaling::times;
 
 #[derive(Clone, Copy)]
