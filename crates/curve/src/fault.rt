@@ -1,6 +1,8 @@
 // Why a curve cannot be made.
 ghost use mathlib.Core.Path.{_≡_};
 ghost use Rattle.curve.specs.Faults.{fault-number};
+use std::error::Error;
+use std::fmt;
 
 #[derive(Clone, Copy, PartialEq, Eq, Debug)]
 pub enum CurveFault {
@@ -33,3 +35,12 @@ impl CurveFault {
         }
     }
 }
+
+pub impl fmt::Display for CurveFault as CurveFaultDisplay {
+    fn fmt<W: fmt::Write>(&self, f: &mut fmt::Formatter<W>) -> fmt::Result {
+        let number = self.number();
+        write!(f, "refused {number}")
+    }
+}
+
+pub impl Error for CurveFault as CurveFaultError {}
