@@ -1,0 +1,10 @@
+// A day of slots, what a plan costs in it, and plans that were checked.
+pub mod check;
+pub mod day;
+pub mod edits;
+pub mod following;
+pub mod limits;
+pub mod price;
+pub mod refusal;
+mod rules;
+pub mod slot;
