@@ -2,7 +2,7 @@
 use mathlib.Core.Path.{_≡_, refl, sym, _∙_, ap, ap₂}
 use mathlib.Core.List.{List, [], _∷_, _++_}
 use mathlib.Core.Bool.{Bool, true, _&&_}
-use Prim.Native.Nat.{ℕ, _+_, _-_, _≤_, _<_}
+use Prim.Native.Nat.{ℕ, _+_, _-_, _≤_, _<_, min}
 use native.Mathlib.Omega.{arith}
 use lib.ListN.{length, take, set, length-set}
 use lib.Seq.{take-take}
@@ -14,6 +14,7 @@ use Rattle.day.specs.Limits.{most-slots}
 use Rattle.day.specs.PlainDay.{PlainDay}
 use Rattle.day.specs.View.{room-of}
 use Rattle.day.specs.declared.slot.Slot.{Slot}
+use Rattle.day.proofs.Fronts.{take-set}
 
 module _ {C : Type 0} where
   -- a plain day over the first slots of a memory
@@ -24,10 +25,15 @@ module _ {C : Type 0} where
   add-accepted memory count s stored bounds tolls few room = let n = length-take-le count memory stored in grind (arith, tells)
 
   pub add-made : (memory : List (Slot C)) (count : ℕ) (s : Slot C) → count < length memory → over (set memory count s) (count + 1) ≡ record { room = room-of memory; slots = take count memory ++ s ∷ [] }
-  add-made memory count s room = ?
+  add-made memory count s room =
+      ap₂ (λ (r : ℕ) (slots : List (Slot C)). record { room = r; slots = slots }) (ap (min most-slots) (length-set memory count s)) (take-more-set memory count s room)
 
   pub replace-accepted : (memory : List (Slot C)) (count i : ℕ) (s : Slot C) → count ≤ length memory → i < count → bounds-hold s ≡ true → tolls-hold s ≡ true → replace-refusal (over memory count) i s ≡ None
   replace-accepted memory count i s stored within bounds tolls = let n = length-take-le count memory stored in grind (arith, tells)
+
+  pub replace-made : (memory : List (Slot C)) (count i : ℕ) (s : Slot C) → over (set memory i s) count ≡ record { room = room-of memory; slots = set (take count memory) i s }
+  replace-made memory count i s =
+      ap₂ (λ (r : ℕ) (slots : List (Slot C)). record { room = r; slots = slots }) (ap (min most-slots) (length-set memory i s)) (take-set count i memory s)
 
   pub drop-accepted : (memory : List (Slot C)) (count : ℕ) → count ≤ length memory → 0 < count → drop-refusal (over memory count) ≡ None
   drop-accepted memory count stored some = let n = length-take-le count memory stored in grind (arith, tells)

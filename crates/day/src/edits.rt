@@ -50,7 +50,7 @@ impl<'a, C: Copy> Day<'a, C> {
             return Err(Refusal::Toll);
         }
         let count = self.count;
-        if count >= MOST_SLOTS || count >= self.slots.len() {
+        if count >= self.slots.len().min(MOST_SLOTS) {
             return Err(Refusal::Full);
         }
         self.slots[count] = slot;
