@@ -1,7 +1,6 @@
 -- Leans certify a plan that obeys the rules with them: its price is a sum of brackets, and each of them is least.
 use mathlib.Core.Path.{_≡_}
 use mathlib.Core.List.{List, [], _∷_}
-use mathlib.Core.Logic.{_↔_}
 use Prim.Native.Nat.{ℕ}
 use native.Mathlib.Omega.{arith}
 use lib.IntN.{ℤ, pos, _+ℤ_, _-ℤ_}
@@ -14,22 +13,12 @@ use Rattle.optimum.specs.Plans.{Terms, Within, price}
 use Rattle.optimum.specs.Leans.{Obeys, next-lean}
 use Rattle.optimum.specs.Theorems.{Convex, Leans-certify, Leans-decide}
 use Rattle.optimum.proofs.Totals.{total, line-slope}
-use Rattle.optimum.proofs.Bounds.{Lower-bound, bound-self, bound-sum, bound-shift}
-use Rattle.optimum.proofs.Charges.{Supports, Alike, alike-self, line-before, flat-before, move-bracket, move-bound}
-use Rattle.optimum.proofs.Stands.{obeys-none, obeys-first}
-use Rattle.optimum.proofs.Tolls.{growth, growth-rises, toll-charge, move-rule}
-use Rattle.optimum.proofs.Slots.{Rests, slot-bracket, slot-bound, rest-rule}
-
--- the rules hold of a day exactly if the first lean supports the tolls, the first slot rests, and they hold of the slots after it
-obeys-supports :
-    (b : Option ℕ) (t : Terms) (ts : List Terms) (x : ℕ) (xs : List ℕ) (l : ℤ) (ls : List ℤ) → Within (t ∷ ts) (x ∷ xs) →
-    Obeys b (t ∷ ts) (x ∷ xs) (l ∷ ls) ↔ ((Supports (growth t) b x l × Rests t (next-lean ls -ℤ l) x) × Obeys (Some x) ts xs ls)
-unfolding Within
-obeys-supports b t ts x xs l ls p =
-    let first = obeys-first b t ts x xs l ls in
-    let move = move-rule t b x l (next-lean ls) in
-    let slot = rest-rule t b x l (next-lean ls) (p .0) (p .1) in
-    (λ o. let h = first .0 o in ((move .0 (h .0), slot .0 (h .1)), h .2), λ h. first .1 (move .1 (h .0 .0), slot .1 (h .0 .1), h .1))
+use Rattle.optimum.proofs.LowerBounds.{Lower-bound, bound-self, bound-sum, bound-shift}
+use Rattle.optimum.proofs.Charges.{Alike, alike-self, line-before, flat-before, move-bracket, move-bound}
+use Rattle.optimum.proofs.Stands.{obeys-none}
+use Rattle.optimum.proofs.Tolls.{growth-rises, toll-growth, toll-charge}
+use Rattle.optimum.proofs.Slots.{slot-bracket, slot-bound}
+use Rattle.optimum.proofs.Rules.{obeys-supports}
 
 -- the price of a plan with the line of slope l at the level before
 abbrev leaned-price : ℤ → Option ℕ → List Terms → List ℕ → ℤ
@@ -38,7 +27,7 @@ leaned-price l b ts xs = price b ts xs +ℤ line-before l b
 -- a price is the brackets of its first slot, the price of the slots after it and the ground
 price-brackets :
     (l n : ℤ) (b : Option ℕ) (t : Terms) (ts : List Terms) (x : ℕ) (xs : List ℕ) →
-    leaned-price l b (t ∷ ts) (x ∷ xs) ≡ move-bracket (growth t) l b x +ℤ slot-bracket t (n -ℤ l) x +ℤ leaned-price n (Some x) ts xs +ℤ t .ground
+    leaned-price l b (t ∷ ts) (x ∷ xs) ≡ move-bracket (toll-growth t) l b x +ℤ slot-bracket t (n -ℤ l) x +ℤ leaned-price n (Some x) ts xs +ℤ t .ground
 unfolding price cost total
 price-brackets l n b t ts x xs = omega (arith, ints, toll-charge t b x, line-slope n l x)
 
@@ -57,7 +46,7 @@ price-bound b c (t ∷ ts) (x ∷ xs) (y ∷ ys) [] a k p q o = absurd (omega (a
 price-bound b c (t ∷ ts) (x ∷ xs) (y ∷ ys) (l ∷ ls) a k p q o =
     let n : ℤ = next-lean ls in
     let rules = obeys-supports b t ts x xs l ls p .0 o in
-    let move = move-bound (growth t) (growth-rises t) l b c x y a (rules .0 .0) in
+    let move = move-bound (toll-growth t) (growth-rises (t .up) (t .down)) l b c x y a (rules .0 .0) in
     let slot = slot-bound t (k .0) (n -ℤ l) x y (p .0) (p .1) (q .0) (q .1) (rules .0 .1) in
     let rest = price-bound (Some x) (Some y) ts xs ys ls tt (k .1) (p .2) (q .2) (rules .1) in
     let here = price-brackets l n b t ts x xs in

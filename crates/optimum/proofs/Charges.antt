@@ -1,14 +1,15 @@
 -- A convex charge for a move, by its growth from one whole move to the next, and the leans that support it.
-use mathlib.Core.Path.{_≡_, refl}
-use Prim.Native.Nat.{ℕ}
+use mathlib.Core.Path.{_≡_, refl, ap, _∙_}
+use Prim.Native.Nat.{ℕ, zero, suc}
 use native.Mathlib.Omega.{arith}
-use lib.IntN.{ℤ, pos, sucℤ, _+ℤ_, _-ℤ_}
+use lib.IntN.{ℤ, pos, sucℤ, _+ℤ_, _-ℤ_, +ℤ-one}
 use lib.Signed.{_≤ℤ_}
 use Rattle.std.specs.declared.option.Option.{Option}
 use Rattle.std.specs.declared.option.Option.the-variants.{Some, None}
 use Rattle.std.proofs.shelf.Signed.{ints}
-use Rattle.optimum.proofs.Totals.{total, line, line-sub, line-flat}
-use Rattle.optimum.proofs.Bounds.{Lower-bound, bound-self, bound-shift}
+use Rattle.curve.specs.Meaning.{climb}
+use Rattle.optimum.proofs.Totals.{total, total-suc, line, line-sub, line-flat}
+use Rattle.optimum.proofs.LowerBounds.{Lower-bound, bound-self, bound-shift}
 use Rattle.optimum.proofs.Subgradients.{Convex-on, Subgradient, subgradient-bound}
 
 -- every move
@@ -23,6 +24,38 @@ Never-falls g = (d : ℤ) → g d ≤ℤ g (sucℤ d)
 abbrev pub charge : (ℤ → ℤ) → Option ℕ → ℕ → ℤ
 charge g None x = pos 0
 charge g (Some u) x = total g (pos x -ℤ pos u)
+
+-- the growth of the charge over the levels, for a move that starts from level u
+abbrev pub growth-from : (ℤ → ℤ) → ℕ → ℕ → ℤ
+growth-from g u v = g (pos v -ℤ pos u)
+
+-- to go one level higher is one more move
+pub move-suc : (u v : ℕ) → pos (suc v) -ℤ pos u ≡ sucℤ (pos v -ℤ pos u)
+move-suc u v = omega (arith, ints, +ℤ-one (pos v -ℤ pos u))
+
+module _ (g : ℤ → ℤ) (u : ℕ) where
+  -- where the growth never falls, it does not fall as the level rises
+  pub growth-from-rises : Never-falls g → (v : ℕ) → growth-from g u v ≤ℤ growth-from g u (suc v)
+  growth-from-rises rises v = rw (move-suc u v) (rises (pos v -ℤ pos u))
+
+  -- one level more costs what the charge grows by
+  charge-suc : (v : ℕ) → charge g (Some u) (suc v) ≡ charge g (Some u) v +ℤ growth-from g u v
+  charge-suc v = ap (total g) (move-suc u v) ∙ total-suc g (pos v -ℤ pos u)
+
+  -- the charge is a climb, up to a constant
+  pub charge-climb : (v : ℕ) → charge g (Some u) v ≡ charge g (Some u) 0 +ℤ climb (growth-from g u) v
+  unfolding climb
+  charge-climb zero = omega (arith, ints)
+  charge-climb (suc v) = omega (arith, ints, charge-climb v, charge-suc v)
+
+  -- it costs nothing to stay
+  charge-stay : charge g (Some u) u ≡ pos 0
+  unfolding total climb
+  charge-stay = let none : pos u -ℤ pos u ≡ pos 0 = omega (arith, ints) in ap (total g) none
+
+  -- the charge is the climb from the one level to the other
+  pub charge-between : (v : ℕ) → charge g (Some u) v +ℤ climb (growth-from g u) u ≡ climb (growth-from g u) v
+  charge-between v = omega (arith, ints, charge-climb v, charge-climb u, charge-stay)
 
 -- the lean l supports the charge for coming into level x: it is a subgradient at the move, and 0 with no level before
 abbrev pub Supports : (ℤ → ℤ) → Option ℕ → ℕ → ℤ → Type 0

@@ -1,7 +1,7 @@
 -- A slot's curve as a convex function on its levels, and the rule of a slot at rest.
-use mathlib.Core.Path.{_≡_}
+use mathlib.Core.Path.{_≡_, refl}
 use mathlib.Core.Logic.{_↔_}
-use Prim.Native.Nat.{ℕ, zero, suc, _-_, _≤_}
+use Prim.Native.Nat.{ℕ, zero, suc, _-_, _≤_, _<_}
 use native.Mathlib.Omega.{arith}
 use lib.IntN.{ℤ, pos, negsuc, _-ℤ_}
 use lib.Signed.{_≤ℤ_}
@@ -11,7 +11,7 @@ use Rattle.std.proofs.shelf.Ways.{tells}
 use Rattle.optimum.specs.Plans.{Terms}
 use Rattle.optimum.specs.Leans.{at-rest}
 use Rattle.optimum.specs.Theorems.{Convex}
-use Rattle.optimum.proofs.Bounds.{Lower-bound}
+use Rattle.optimum.proofs.LowerBounds.{Lower-bound}
 use Rattle.optimum.proofs.Subgradients.{Convex-on, Subgradient, tilted, subgradient-bound}
 use Rattle.optimum.proofs.Stands.{stand, Rests-by-rule}
 
@@ -27,6 +27,12 @@ step-growth t (negsuc n) = pos 0
 -- the gain m of the next lean over a slot's own is a subgradient of its curve
 abbrev pub Rests : Terms → ℤ → ℕ → Type 0
 Rests t m x = Subgradient (Levels t) (step-growth t) m (pos x)
+
+-- it is, if no step up costs less than the gain, and no step down saves more
+pub rests-from :
+    (t : Terms) (m : ℤ) (x : ℕ) → (x < t .high → m ≤ℤ t .steps x) → ((v : ℕ) → suc v ≡ x → t .low ≤ v → t .steps v ≤ℤ m) → Rests t m x
+rests-from t m zero up down = record { left = λ p. absurd (omega (arith, ints)); right = λ p. up (omega (arith, ints)) }
+rests-from t m (suc v) up down = record { left = λ p. down v refl (omega (arith, ints)); right = λ p. up (omega (arith, ints)) }
 
 -- the rule on a slot holds exactly if the gain is a subgradient of its curve
 pub rest-rule :

@@ -6,7 +6,7 @@ use lib.IntN.{ℤ, pos, negsuc, sucℤ, predℤ, _+ℤ_, _-ℤ_, +ℤ-one, suc-p
 use lib.Signed.{_≤ℤ_, ≤ℤ-refl}
 use Rattle.std.proofs.shelf.Signed.{ints}
 use Rattle.optimum.proofs.Totals.{total, total-suc, line}
-use Rattle.optimum.proofs.Bounds.{Lower-bound}
+use Rattle.optimum.proofs.LowerBounds.{Lower-bound}
 
 -- the points P are an interval, and the growth g does not fall on it
 pub record Convex-on (P : ℤ → Type 0) (g : ℤ → ℤ) : Type 0 where

@@ -1,22 +1,11 @@
 -- Sums: the total of a growth over the whole numbers, and the lines, which are the totals of a constant growth.
 use mathlib.Core.Path.{_≡_, refl, sym, ap, _∙_}
-use Prim.Native.Nat.{ℕ, zero, suc, _*_}
+use Prim.Native.Nat.{ℕ, zero, suc}
 use native.Mathlib.Omega.{arith}
 use lib.IntN.{ℤ, pos, negsuc, negℤ, sucℤ, _+ℤ_, _-ℤ_, +ℤ-idr, +ℤ-sucℤ, -ℤ-+ℤ-cancel}
 use Rattle.std.proofs.shelf.Signed.{ints}
 use Rattle.curve.specs.Meaning.{climb}
-
--- the sum of a constant is a product
-pub climb-constant : (c n : ℕ) → climb (λ k. pos c) n ≡ pos (c * n)
-unfolding climb
-climb-constant c zero = omega (arith, ints)
-climb-constant c (suc n) = let rest = climb-constant c n in omega (arith, ints)
-
--- the sum of negated values is the negated sum
-pub climb-negated : (f : ℕ → ℤ) (n : ℕ) → climb (λ k. negℤ (f k)) n ≡ negℤ (climb f n)
-unfolding climb
-climb-negated f zero = refl
-climb-negated f (suc n) = let rest = climb-negated f n in omega (arith, ints)
+use Rattle.optimum.proofs.Climbs.{climb-sum, climb-negated}
 
 -- the sum from 0 to d of the growth g, where g k is the growth from k to k + 1
 unfoldable pub total : (ℤ → ℤ) → ℤ → ℤ
@@ -50,8 +39,7 @@ line-sub m k n =
 -- a line whose slope is a difference
 pub line-slope : (a b : ℤ) (n : ℕ) → line (a -ℤ b) (pos n) ≡ line a (pos n) -ℤ line b (pos n)
 unfolding total climb
-line-slope a b zero = refl
-line-slope a b (suc n) = let rest = line-slope a b n in omega (arith, ints)
+line-slope a b n = climb-sum (λ _. a) (λ _. negℤ b) n ∙ ap (λ (z : ℤ). climb (λ _. a) n +ℤ z) (climb-negated (λ _. b) n)
 
 -- a line of slope 0
 pub line-flat : (n : ℕ) → line (pos 0) (pos n) ≡ pos 0

@@ -44,8 +44,8 @@ bounded s = elim (s .before) [ None ↦ same (s .lean) (pos 0) | Some u ↦ leZ 
 unfoldable pub follows-move : Stand → Bool
 follows-move s =
     elim (s .before) [
-      None ↦ true
-    | Some u ↦ cond (ltb u (s .level)) (same (s .lean) (pos (s .terms .up))) (cond (ltb (s .level) u) (same (s .lean) (negℤ (pos (s .terms .down)))) true)
+      | None ↦ true
+      | Some u ↦ cond (ltb u (s .level)) (same (s .lean) (pos (s .terms .up))) (cond (ltb (s .level) u) (same (s .lean) (negℤ (pos (s .terms .down)))) true)
     ]
 
 -- third rule: the slot is at rest, so that no step up costs less than the next lean gains over its own, and no step down saves more

@@ -1,3 +1,4 @@
-pub mod Plans
+pub mod Coldest
 pub mod Leans
+pub mod Plans
 pub mod Theorems
