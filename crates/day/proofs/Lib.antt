@@ -1,2 +1,5 @@
+pub mod Earliest
 pub mod Fronts
+pub mod Outside
 pub mod PlainEdits
+pub mod Prices

@@ -3,6 +3,7 @@ pub mod Followed
 pub mod Judging
 pub mod Limits
 pub mod PlainDay
+pub mod Planning
 pub mod Refusals
 pub mod Slots
 pub mod Stands

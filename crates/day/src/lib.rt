@@ -5,6 +5,7 @@ pub mod edits;
 pub mod following;
 mod leans;
 pub mod limits;
+pub mod plan;
 pub mod price;
 pub mod refusal;
 mod rules;

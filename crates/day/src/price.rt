@@ -1,16 +1,21 @@
 // What a plan costs in a day.
 ghost use mathlib.Core.Path.{_≡_};
-ghost use mathlib.Core.Bool.{true};
-ghost use Prim.Native.Nat.{_≤_, _*_};
+ghost use mathlib.Core.Bool.{true, _&&_};
+ghost use Prim.Native.Nat.{_≤_, _*_, _^_};
+ghost use lib.Dec.{leb};
+ghost use lib.IntN.{pos, negℤ, _+ℤ_};
 ghost use lib.ListN.{length};
+ghost use lib.Signed.{_≤ℤ_};
 ghost use Rattle.std.specs.Finite.{zipped};
 ghost use Rattle.std.specs.declared.option.Option.the-variants.{None};
+ghost use Rattle.curve.specs.Limits.{top};
+ghost use Rattle.curve.specs.Meaning.{cost};
 ghost use Rattle.optimum.specs.Plans.{price, toll};
 ghost use Rattle.day.specs.Judging.{earliest, inside, price-refusal};
 ghost use Rattle.day.specs.Limits.{most-slots};
 ghost use Rattle.day.specs.PlainDay.{slot-terms, day-terms};
 ghost use Rattle.day.specs.Refusals.{told};
-ghost use Rattle.day.specs.Slots.{proper, all-proper};
+ghost use Rattle.day.specs.Slots.{all-proper};
 ghost use Rattle.day.specs.View.{plain};
 use crate::day::Day;
 use crate::refusal::Refusal;
@@ -18,28 +23,52 @@ use crate::slot::Slot;
 use curve::Curve;
 use curve::cost::cost_at;
 
+// Whether a level lies within the bounds of a slot.
+fn allows<C>(slot: &Slot<C>, level: u16) -> bool
+    ensures { λ r. ⌜ r ≡ (leb (now (slot .entry) .low) level && leb level (now (slot .entry) .high)) ⌝ }
+{
+    slot.low <= level && level <= slot.high
+}
+
 // The earliest slot whose level is out of bounds.
 pub(crate) fn first_outside<C: Curve>(slots: &[Slot<C>], levels: &[u16]) -> Option<usize>
     ensures { λ r. ⌜ r ≡ earliest inside (zipped (day-terms (C·Curve .ground) (C·Curve .steps) (now (slots .entry))) (now (levels .entry))) ⌝ }
 {
     for (i, (slot, level)) in slots.iter().zip(levels.iter()).enumerate() {
-        if *level < slot.low || *level > slot.high {
+        if !allows(slot, *level) {
             return Some(i);
         }
     }
     None
 }
 
+// The toll for so many levels.
+fn toll_for(each: u32, levels: u16) -> i64
+    ensures value { λ r. ⌜ r ≡ pos (each * levels) ⌝ }
+    ensures size { λ r. ⌜ r ≤ℤ pos (2 ^ 48) ⌝ }
+{
+    each as i64 * levels as i64
+}
+
 // The toll for coming into a slot at a level.
 fn toll_into<C: Curve>(slot: &Slot<C>, before: Option<u16>, level: u16) -> i64
-    requires { ⌜ proper (now slot) ≡ true ⌝ }
-    ensures { λ r. ⌜ r ≡ toll (slot-terms (C·Curve .ground) (C·Curve .steps) (now (slot .entry))) before level ⌝ }
+    ensures value { λ r. ⌜ r ≡ toll (slot-terms (C·Curve .ground) (C·Curve .steps) (now (slot .entry))) before level ⌝ }
+    ensures size { λ r. ⌜ (pos 0 ≤ℤ r) × (r ≤ℤ pos (2 ^ 48)) ⌝ }
 {
     match before {
         None => 0,
-        Some(before) if before < level => slot.up as i64 * (level - before) as i64,
-        Some(before) => slot.down as i64 * (before - level) as i64,
+        Some(before) if before < level => toll_for(slot.up, level - before),
+        Some(before) => toll_for(slot.down, before - level),
     }
+}
+
+// What a slot adds to the price: its curve's cost at a level, and the toll for coming there.
+fn slot_price<C: Curve>(slot: &Slot<C>, before: Option<u16>, level: u16) -> i64
+    requires { ⌜ level ≤ top ⌝ }
+    ensures value { λ r. ⌜ r ≡ cost (C·Curve .ground (now (slot .entry) .curve)) (C·Curve .steps (now (slot .entry) .curve)) level +ℤ toll (slot-terms (C·Curve .ground) (C·Curve .steps) (now (slot .entry))) before level ⌝ }
+    ensures size { λ r. ⌜ (negℤ (pos (2 ^ 49)) ≤ℤ r) × (r ≤ℤ pos (2 ^ 49)) ⌝ }
+{
+    cost_at(&slot.curve, level).unwrap_or(0) + toll_into(slot, before, level)
 }
 
 // The curves' costs and the tolls of a plan within the bounds.
@@ -52,11 +81,9 @@ pub(crate) fn total_price<C: Curve>(slots: &[Slot<C>], levels: &[u16]) -> i64
 {
     let mut total = 0;
     let mut before = None;
-    for i in 0..slots.len() {
-        let level = levels[i];
-        let slot = &slots[i];
-        total += cost_at(&slot.curve, level).unwrap_or(0) + toll_into(slot, before, level);
-        before = Some(level);
+    for (slot, level) in slots.iter().zip(levels.iter()) {
+        total += slot_price(slot, before, *level);
+        before = Some(*level);
     }
     total
 }

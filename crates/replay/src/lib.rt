@@ -1,0 +1,2 @@
+// Any run of calls on a day, made anew from the start.
+pub mod call;
