@@ -19,6 +19,10 @@ room-of memory = min most-slots (length memory)
 abbrev pub plain : {C : Type 0} → Day C → PlainDay C
 plain d = record { room = room-of (now (d .slots)); slots = take (d .count) (now (d .slots)) }
 
+-- what the lent memory holds
+abbrev pub memory-of : {C : Type 0} → Day C → List (Slot C)
+memory-of d = now (d .slots)
+
 -- the day of a new memory has no slots
 abbrev pub empty-day : {C : Type 0} → List (Slot C) → PlainDay C
 empty-day memory = record { room = room-of memory; slots = [] }

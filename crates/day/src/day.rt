@@ -8,6 +8,7 @@ ghost use Rattle.day.specs.Limits.{most-slots};
 ghost use Rattle.day.specs.Slots.{all-proper};
 use crate::slot::Slot;
 
+#[derive(Drop)]
 pub struct Day<'a, C> {
     pub(crate) slots: &'a mut [Slot<C>],
     pub(crate) count: usize,

@@ -36,6 +36,13 @@ impl<'a, C: Copy> Day<'a, C> {
         Day { slots: memory, count: 0 }
     }
 
+    // The slots of the day.
+    pub fn slots(&self) -> &[Slot<C>]
+        ensures { λ r. ⌜ now r ≡ plain (now (self .entry)) .slots ⌝ }
+    {
+        &self.slots[0..self.count]
+    }
+
     // Puts a slot at the end.
     pub fn add(&mut self, slot: Slot<C>) -> Result<(), Refusal>
         ensures answer { λ r. ⌜ r ≡ told (add-refusal (plain (now (self .entry))) slot) tt ⌝ }

@@ -1,6 +1,10 @@
 // The three rules of leans, each as a test of one slot.
-ghost use mathlib.Core.Bool.{Bool, true};
+ghost use mathlib.Core.Bool.{Bool, true, _||_};
 ghost use mathlib.Core.Path.{_≡_};
+ghost use Prim.Native.Nat.{_-_, _≤_};
+ghost use lib.Dec.{leb};
+ghost use lib.Signed.{leZ};
+ghost use Rattle.curve.specs.Limits.{top};
 ghost use Rattle.optimum.specs.Leans.{Stand, bounded, follows-move, at-rest};
 ghost use Rattle.day.specs.Stands.{slot-stand, small};
 use crate::slot::Slot;
@@ -12,7 +16,13 @@ pub(crate) trait Rule {
 
     ghost given: { Stand → Type 0 };
 
-    fn holds<C: Curve>(slot: &Slot<C>, before: Option<u16>, level: u16, lean: i64, next: i64) -> bool
+    fn holds<C: Curve>(
+        slot: &Slot<C>,
+        before: Option<u16>,
+        level: u16,
+        lean: i64,
+        next: i64,
+    ) -> bool
         requires { ⌜ given (slot-stand (C·Curve .ground) (C·Curve .steps) (now slot) before level lean next) ⌝ }
         ensures { λ r. ⌜ r ≡ test (slot-stand (C·Curve .ground) (C·Curve .steps) (now (slot .entry)) before level lean next) ⌝ };
 }
@@ -25,7 +35,13 @@ pub(crate) impl Rule for Bounded as BoundedRule {
 
     ghost given = { λ _. Unit {0} };
 
-    fn holds<C: Curve>(slot: &Slot<C>, before: Option<u16>, _level: u16, lean: i64, _next: i64) -> bool {
+    fn holds<C: Curve>(
+        slot: &Slot<C>,
+        before: Option<u16>,
+        _level: u16,
+        lean: i64,
+        _next: i64,
+    ) -> bool {
         match before {
             None => lean == 0,
             Some(_) => lean >= -(slot.down as i64) && lean <= slot.up as i64,
@@ -41,7 +57,13 @@ pub(crate) impl Rule for FollowsMove as FollowsMoveRule {
 
     ghost given = { λ _. Unit {0} };
 
-    fn holds<C: Curve>(slot: &Slot<C>, before: Option<u16>, level: u16, lean: i64, _next: i64) -> bool {
+    fn holds<C: Curve>(
+        slot: &Slot<C>,
+        before: Option<u16>,
+        level: u16,
+        lean: i64,
+        _next: i64,
+    ) -> bool {
         match before {
             None => true,
             Some(before) if before < level => lean == slot.up as i64,
@@ -49,6 +71,22 @@ pub(crate) impl Rule for FollowsMove as FollowsMoveRule {
             Some(_) => true,
         }
     }
+}
+
+// No step up costs less than it gains.
+fn rests_upward<C: Curve>(slot: &Slot<C>, level: u16, gain: i64) -> bool
+    requires { ⌜ now slot .high ≤ top ⌝ }
+    ensures { λ r. ⌜ r ≡ (leb (now (slot .entry) .high) level || leZ gain (C·Curve .steps (now (slot .entry) .curve) level)) ⌝ }
+{
+    level >= slot.high || slot.curve.step(level) >= gain
+}
+
+// No step down saves more than it loses.
+fn rests_downward<C: Curve>(slot: &Slot<C>, level: u16, gain: i64) -> bool
+    requires { ⌜ level ≤ top ⌝ }
+    ensures { λ r. ⌜ r ≡ (leb level (now (slot .entry) .low) || leZ (C·Curve .steps (now (slot .entry) .curve) (level - 1)) gain) ⌝ }
+{
+    level <= slot.low || slot.curve.step(level - 1) <= gain
 }
 
 // No step up costs less than the next lean gains over its own, and no step down saves more.
@@ -59,8 +97,14 @@ pub(crate) impl Rule for AtRest as AtRestRule {
 
     ghost given = { λ s. small s ≡ true };
 
-    fn holds<C: Curve>(slot: &Slot<C>, _before: Option<u16>, level: u16, lean: i64, next: i64) -> bool {
+    fn holds<C: Curve>(
+        slot: &Slot<C>,
+        _before: Option<u16>,
+        level: u16,
+        lean: i64,
+        next: i64,
+    ) -> bool {
         let gain = next - lean;
-        (level >= slot.high || slot.curve.step(level) >= gain) && (level <= slot.low || slot.curve.step(level - 1) <= gain)
+        rests_upward(slot, level, gain) && rests_downward(slot, level, gain)
     }
 }

@@ -3,10 +3,12 @@ use mathlib.Core.List.{List, [], _∷_}
 use Prim.Native.Nat.{ℕ}
 use denote.Ref.{now}
 use lib.IntN.{ℤ}
-use lib.ListN.{length}
+use lib.ListN.{length, take}
 use Rattle.std.specs.Of.Vec.{vec-items}
 use Rattle.std.specs.declared.option.Option.{Option}
 use Rattle.std.specs.declared.option.Option.the-variants.{Some, None}
+use Rattle.std.specs.declared.result.Result.{Result}
+use Rattle.std.specs.declared.result.Result.the-variants.{Ok, Err}
 use Rattle.optimum.specs.Plans.{Terms, price}
 use Rattle.optimum.specs.Coldest.{plan}
 use Rattle.day.specs.Edits.{add-refusal, replace-refusal, drop-refusal, add-slot, replace-slot, drop-slot}
@@ -19,6 +21,7 @@ use Rattle.day.specs.declared.refusal.Refusal.{Refusal}
 use Rattle.day.specs.declared.slot.Slot.{Slot}
 use Rattle.replay.specs.declared.call.Answer.{Answer}
 use Rattle.replay.specs.declared.call.Answer.the-variants.{Done, Cost, Planned, Refused}
+use Rattle.replay.specs.declared.call.Unfinished.{Unfinished}
 use Rattle.replay.specs.declared.call.Call.{Call}
 use Rattle.replay.specs.declared.call.Call.the-variants.{Add, Replace, Drop, Price, Plan, Check}
 
@@ -51,6 +54,16 @@ memory-after d memory Drop = memory
 memory-after d memory (Price xs) = memory
 memory-after d memory (Plan lengths) = memory
 memory-after d memory (Check xs ls) = memory
+
+-- and after several calls
+abbrev pub memory-after-all : {C : Type 0} → PlainDay C → List (Slot C) → List (Call C) → List (Slot C)
+memory-after-all d memory [] = memory
+memory-after-all d memory (c ∷ calls) = memory-after-all (after d c) (memory-after d memory c) calls
+
+-- the calls that were made: all of them, or as many as the fault says
+abbrev pub calls-made : {C X : Type 0} → Result X Unfinished → List (Call C) → List (Call C)
+calls-made (Ok x) calls = calls
+calls-made (Err fault) calls = take (fault .made) calls
 
 module _ {C : Type 0} (ground : C → ℤ) (steps : C → ℕ → ℤ) where
   -- the terms of a plain day

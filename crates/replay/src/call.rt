@@ -35,3 +35,9 @@ pub struct Moment<C> {
     pub answer: Answer,
     pub slots: Vec<Slot<C>>,
 }
+
+// There was no memory for a moment: so many calls were made.
+#[derive(Clone, Copy, Debug)]
+pub struct Unfinished {
+    pub made: usize,
+}
