@@ -1,7 +1,14 @@
 pub mod Breaks
+pub mod Convexity
 pub mod Earliest
+pub mod FirstLevels
 pub mod Fronts
 pub mod Outside
 pub mod PlainEdits
 pub mod Prices
+pub mod ProperSlots
+pub mod SlotSweeps
 pub mod Stands
+pub mod Swept
+pub mod Tables
+pub mod WithinBounds

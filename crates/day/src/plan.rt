@@ -1,21 +1,50 @@
 // The plan of a day: of the cheapest plans, the coldest.
+ghost use mathlib.Core.Bool.{true};
+ghost use mathlib.Core.List.{_++_};
 ghost use mathlib.Core.Path.{_≡_};
-ghost use lib.ListN.{length};
+ghost use Prim.Native.Nat.{_*_, _≤_};
+ghost use lib.ListN.{length, take, drop};
 ghost use Rattle.std.specs.declared.option.Option.the-variants.{None};
 ghost use Rattle.optimum.specs.Coldest.{plan};
+ghost use Rattle.optimum.specs.Leans.{Obeys};
 ghost use Rattle.optimum.specs.Plans.{price};
+ghost use Rattle.day.specs.Limits.{most-slots, table-length};
 ghost use Rattle.day.specs.PlainDay.{day-terms};
 ghost use Rattle.day.specs.Planning.{plan-refusal, planned, Leaned, Spent};
 ghost use Rattle.day.specs.Refusals.{told};
+ghost use Rattle.day.specs.Slots.{all-proper};
 ghost use Rattle.day.specs.View.{plain};
 use crate::day::Day;
 use crate::leans::{lean_backward, lean_forward};
 use crate::limits::TABLE_LENGTH;
 use crate::price::total_price;
 use crate::refusal::Refusal;
+use crate::slot::Slot;
 use crate::sweep::sweep;
 use crate::walk::walk_back;
 use curve::Curve;
+
+// The plan of slots for which the buffers are long enough.
+fn plan_slots<C: Curve>(slots: &[Slot<C>], levels: &mut [u16], leans: &mut [i64], table: &mut [i64], marks: &mut [u16]) -> i64
+    requires few { ⌜ length (now slots) ≤ most-slots ⌝ }
+    requires proper { ⌜ all-proper (now slots) ≡ true ⌝ }
+    requires level_each { ⌜ length (now slots) ≤ length (now levels) ⌝ }
+    requires lean_each { ⌜ length (now slots) ≤ length (now leans) ⌝ }
+    requires long { ⌜ table-length ≤ length (now table) ⌝ }
+    requires marked { ⌜ 2 * length (now slots) ≤ length (now marks) ⌝ }
+    ensures cost { λ r. ⌜ r ≡ price None (day-terms (C·Curve .ground) (C·Curve .steps) (now (slots .entry))) (plan None (day-terms (C·Curve .ground) (C·Curve .steps) (now (slots .entry)))) ⌝ }
+    ensures levels { λ _. ⌜ now (levels .exit) ≡ plan None (day-terms (C·Curve .ground) (C·Curve .steps) (now (slots .entry))) ++ drop (length (now (slots .entry))) (now (levels .entry)) ⌝ }
+    ensures leans { λ _. ⌜ Obeys None (day-terms (C·Curve .ground) (C·Curve .steps) (now (slots .entry))) (plan None (day-terms (C·Curve .ground) (C·Curve .steps) (now (slots .entry)))) (take (length (now (slots .entry))) (now (leans .exit))) ⌝ }
+    ensures beyond { λ _. ⌜ drop (length (now (slots .entry))) (now (leans .exit)) ≡ drop (length (now (slots .entry))) (now (leans .entry)) ⌝ }
+{
+    let count = slots.len();
+    sweep(slots, table, marks);
+    walk_back(marks, count, levels);
+    let levels = &levels[0..count];
+    lean_forward(slots, levels, leans);
+    lean_backward(slots, levels, leans);
+    total_price(slots, levels)
+}
 
 impl<'a, C: Curve + Copy> Day<'a, C> {
     // Writes the levels of the cheapest plan that is coldest in every slot, and leans that obey the rules with it, and answers its cost.
@@ -26,16 +55,10 @@ impl<'a, C: Curve + Copy> Day<'a, C> {
         ensures table { λ _. ⌜ Spent (plan-refusal (now (self .entry) .count) (length (now (levels .entry))) (length (now (leans .entry))) (length (now (table .entry))) (length (now (marks .entry)))) (now (table .entry)) (now (table .exit)) ⌝ }
         ensures marks { λ _. ⌜ Spent (plan-refusal (now (self .entry) .count) (length (now (levels .entry))) (length (now (leans .entry))) (length (now (table .entry))) (length (now (marks .entry)))) (now (marks .entry)) (now (marks .exit)) ⌝ }
     {
-        let slots = &self.slots[0..self.count];
-        let count = slots.len();
+        let count = self.count;
         if levels.len() < count || leans.len() < count || table.len() < TABLE_LENGTH || marks.len() < 2 * count {
             return Err(Refusal::Short);
         }
-        sweep(slots, table, marks);
-        walk_back(marks, count, levels);
-        let levels = &levels[0..count];
-        lean_forward(slots, levels, leans);
-        lean_backward(slots, levels, leans);
-        Ok(total_price(slots, levels))
+        Ok(plan_slots(&self.slots[0..count], levels, leans, table, marks))
     }
 }

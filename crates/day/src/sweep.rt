@@ -10,7 +10,7 @@ ghost use lib.Signed.{_≤ℤ_};
 ghost use Rattle.std.specs.Numbers.{maxZ, minZ};
 ghost use Rattle.curve.specs.Limits.{last-step};
 ghost use Rattle.optimum.proofs.Marks.{Holds, marks as marks-of};
-ghost use Rattle.optimum.proofs.Sweep.{first-from, threshold, passed};
+ghost use Rattle.optimum.proofs.Sweep.{first-from, threshold, passed, next-up, next-down};
 ghost use Rattle.day.specs.Limits.{most-slots, toll-limit, table-length};
 ghost use Rattle.day.specs.PlainDay.{slot-terms, day-terms};
 ghost use Rattle.day.specs.Slots.{proper, all-proper};
@@ -76,6 +76,28 @@ fn sweep_slot<C: Curve>(slot: &Slot<C>, up: u32, down: u32, table: &mut [i64]) -
     (first, second)
 }
 
+// Fills the table with zeros, the message to the first slot.
+fn clear(table: &mut [i64])
+    requires { ⌜ table-length ≤ length (now table) ⌝ }
+    ensures { λ _. ⌜ Holds (now (table .exit)) (λ _. pos 0) ⌝ }
+{
+    for level in 0..TABLE_LENGTH {
+        table[level] = 0;
+    }
+}
+
+// The tolls up and down of the slot with the number i, and zeros where the day has no such slot.
+fn tolls_at<C: Curve>(slots: &[Slot<C>], i: usize) -> (u32, u32)
+    ensures up { λ r. ⌜ r .0 ≡ next-up (day-terms (C·Curve .ground) (C·Curve .steps) (drop i (now (slots .entry)))) ⌝ }
+    ensures down { λ r. ⌜ r .1 ≡ next-down (day-terms (C·Curve .ground) (C·Curve .steps) (drop i (now (slots .entry)))) ⌝ }
+{
+    if i < slots.len() {
+        (slots[i].up, slots[i].down)
+    } else {
+        (0, 0)
+    }
+}
+
 // The two levels of every slot, from a table of zeros on.
 pub(crate) fn sweep<C: Curve>(slots: &[Slot<C>], table: &mut [i64], marks: &mut [u16])
     requires few { ⌜ length (now slots) ≤ most-slots ⌝ }
@@ -84,11 +106,9 @@ pub(crate) fn sweep<C: Curve>(slots: &[Slot<C>], table: &mut [i64], marks: &mut 
     requires room { ⌜ 2 * length (now slots) ≤ length (now marks) ⌝ }
     ensures { λ _. ⌜ now (marks .exit) ≡ marks-of (λ _. pos 0) (day-terms (C·Curve .ground) (C·Curve .steps) (now (slots .entry))) ++ drop (2 * length (now (slots .entry))) (now (marks .entry)) ⌝ }
 {
-    for level in 0..TABLE_LENGTH {
-        table[level] = 0;
-    }
+    clear(table);
     for i in 0..slots.len() {
-        let (up, down) = if i + 1 < slots.len() { (slots[i + 1].up, slots[i + 1].down) } else { (0, 0) };
+        let (up, down) = tolls_at(slots, i + 1);
         let (first, second) = sweep_slot(&slots[i], up, down, table);
         marks[2 * i] = first;
         marks[2 * i + 1] = second;

@@ -5,12 +5,14 @@ pub mod LeanIntervals
 pub mod LeanPasses
 pub mod LeanSizes
 pub mod LeansObey
+pub mod Lengths
 pub mod Listing
 pub mod LowerBounds
 pub mod Marks
 pub mod Messages
 pub mod Passing
 pub mod Plan
+pub mod Planned
 pub mod PriceUnder
 pub mod Rules
 pub mod Search
