@@ -33,10 +33,10 @@ price-refusal ts xs = first-refusal (broken ((eqb (length xs) (length ts), Count
 abbrev pub check-refusal : List Terms → List ℕ → List ℤ → Option Refusal
 check-refusal ts xs ls =
     first-refusal (
-      broken ((eqb (length xs) (length ts) && eqb (length ls) (length ts), Count) ∷ [])
-      ∷ mapped Outside (earliest inside (zipped ts xs))
-      ∷ mapped Lean (earliest bounded (stands None ts xs ls))
-      ∷ mapped Move (earliest follows-move (stands None ts xs ls))
-      ∷ mapped Rest (earliest at-rest (stands None ts xs ls))
-      ∷ []
+    broken ((eqb (length xs) (length ts) && eqb (length ls) (length ts), Count) ∷ [])
+    ∷ mapped Outside (earliest inside (zipped ts xs))
+    ∷ mapped Lean (earliest bounded (stands None ts xs ls))
+    ∷ mapped Move (earliest follows-move (stands None ts xs ls))
+    ∷ mapped Rest (earliest at-rest (stands None ts xs ls))
+    ∷ []
     )

@@ -9,7 +9,8 @@ ghost use Rattle.day.specs.Edits.{bounds-hold, tolls-hold, add-refusal, replac
 ghost use Rattle.day.specs.Refusals.{told};
 ghost use Rattle.day.specs.View.{plain, empty-day, wrote};
 use crate::day::Day;
-use crate::limits::{MOST_SLOTS, TOLL_LIMIT};
+use crate::limits::MOST_SLOTS;
+use crate::limits::TOLL_LIMIT;
 use crate::refusal::Refusal;
 use crate::slot::Slot;
 use curve::limits::TOP;
@@ -33,7 +34,10 @@ impl<'a, C: Copy> Day<'a, C> {
         ensures memory { λ r. ⌜ now (r .slots) ≡ now (memory .entry) ⌝ }
         ensures lender { λ r. ⌜ name (r .slots) ≡ name (memory .entry) ⌝ }
     {
-        Day { slots: memory, count: 0 }
+        Day {
+            slots: memory,
+            count: 0,
+        }
     }
 
     // The slots of the day.

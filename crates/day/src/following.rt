@@ -18,7 +18,10 @@ impl<'l> CheckedPlan<'l> {
     pub fn follow(self) -> Following<'l>
         ensures { λ r. ⌜ drop (r .next) (now (r .levels)) ≡ now (self .entry .levels) ⌝ }
     {
-        Following { levels: self.levels, next: 0 }
+        Following {
+            levels: self.levels,
+            next: 0,
+        }
     }
 }
 

@@ -2,10 +2,8 @@
 ghost use mathlib.Core.Bool.{true};
 ghost use mathlib.Core.List.{_++_};
 ghost use mathlib.Core.Path.{_≡_};
-ghost use Prim.Native.Nat.{_+_, _*_, _≤_};
-ghost use lib.IntN.{pos, negℤ};
+ghost use Prim.Native.Nat.{_*_, _≤_};
 ghost use lib.ListN.{length, take, drop};
-ghost use lib.Signed.{_≤ℤ_};
 ghost use Rattle.std.specs.shelf.Lists.{All};
 ghost use Rattle.optimum.proofs.LeanPasses.{forward-lean, backward-lean, forward, backward};
 ghost use Rattle.optimum.proofs.LeanSizes.{Sized};
@@ -43,10 +41,10 @@ pub(crate) fn lean_forward<C: Curve>(slots: &[Slot<C>], levels: &[u16], leans: &
 {
     let mut lean = 0;
     for i in 0..slots.len() {
-        if i > 0 {
-            lean = forward_lean(&slots[i - 1], levels[i - 1], lean, &slots[i], levels[i]);
-        }
         leans[i] = lean;
+        if i + 1 < slots.len() {
+            lean = forward_lean(&slots[i], levels[i], lean, &slots[i + 1], levels[i + 1]);
+        }
     }
 }
 

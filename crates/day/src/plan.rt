@@ -15,7 +15,8 @@ ghost use Rattle.day.specs.Refusals.{told};
 ghost use Rattle.day.specs.Slots.{all-proper};
 ghost use Rattle.day.specs.View.{plain};
 use crate::day::Day;
-use crate::leans::{lean_backward, lean_forward};
+use crate::leans::lean_backward;
+use crate::leans::lean_forward;
 use crate::limits::TABLE_LENGTH;
 use crate::price::total_price;
 use crate::refusal::Refusal;
@@ -24,8 +25,45 @@ use crate::sweep::sweep;
 use crate::walk::walk_back;
 use curve::Curve;
 
+// The levels of the plan.
+fn plan_levels<C: Curve>(
+    slots: &[Slot<C>],
+    levels: &mut [u16],
+    table: &mut [i64],
+    marks: &mut [u16],
+)
+    requires few { ⌜ length (now slots) ≤ most-slots ⌝ }
+    requires proper { ⌜ all-proper (now slots) ≡ true ⌝ }
+    requires room { ⌜ length (now slots) ≤ length (now levels) ⌝ }
+    requires long { ⌜ table-length ≤ length (now table) ⌝ }
+    requires marked { ⌜ 2 * length (now slots) ≤ length (now marks) ⌝ }
+    ensures { λ _. ⌜ now (levels .exit) ≡ plan None (day-terms (C·Curve .ground) (C·Curve .steps) (now (slots .entry))) ++ drop (length (now (slots .entry))) (now (levels .entry)) ⌝ }
+{
+    sweep(slots, table, marks);
+    walk_back(marks, slots.len(), levels);
+}
+
+// Leans that obey the rules with the plan.
+fn plan_leans<C: Curve>(slots: &[Slot<C>], levels: &[u16], leans: &mut [i64])
+    requires few { ⌜ length (now slots) ≤ most-slots ⌝ }
+    requires proper { ⌜ all-proper (now slots) ≡ true ⌝ }
+    requires planned { ⌜ now levels ≡ plan None (day-terms (C·Curve .ground) (C·Curve .steps) (now slots)) ⌝ }
+    requires room { ⌜ length (now slots) ≤ length (now leans) ⌝ }
+    ensures obeys { λ _. ⌜ Obeys None (day-terms (C·Curve .ground) (C·Curve .steps) (now (slots .entry))) (plan None (day-terms (C·Curve .ground) (C·Curve .steps) (now (slots .entry)))) (take (length (now (slots .entry))) (now (leans .exit))) ⌝ }
+    ensures beyond { λ _. ⌜ drop (length (now (slots .entry))) (now (leans .exit)) ≡ drop (length (now (slots .entry))) (now (leans .entry)) ⌝ }
+{
+    lean_forward(slots, levels, leans);
+    lean_backward(slots, levels, leans);
+}
+
 // The plan of slots for which the buffers are long enough.
-fn plan_slots<C: Curve>(slots: &[Slot<C>], levels: &mut [u16], leans: &mut [i64], table: &mut [i64], marks: &mut [u16]) -> i64
+fn plan_slots<C: Curve>(
+    slots: &[Slot<C>],
+    levels: &mut [u16],
+    leans: &mut [i64],
+    table: &mut [i64],
+    marks: &mut [u16],
+) -> i64
     requires few { ⌜ length (now slots) ≤ most-slots ⌝ }
     requires proper { ⌜ all-proper (now slots) ≡ true ⌝ }
     requires level_each { ⌜ length (now slots) ≤ length (now levels) ⌝ }
@@ -34,21 +72,24 @@ fn plan_slots<C: Curve>(slots: &[Slot<C>], levels: &mut [u16], leans: &mut [i64]
     requires marked { ⌜ 2 * length (now slots) ≤ length (now marks) ⌝ }
     ensures cost { λ r. ⌜ r ≡ price None (day-terms (C·Curve .ground) (C·Curve .steps) (now (slots .entry))) (plan None (day-terms (C·Curve .ground) (C·Curve .steps) (now (slots .entry)))) ⌝ }
     ensures levels { λ _. ⌜ now (levels .exit) ≡ plan None (day-terms (C·Curve .ground) (C·Curve .steps) (now (slots .entry))) ++ drop (length (now (slots .entry))) (now (levels .entry)) ⌝ }
-    ensures leans { λ _. ⌜ Obeys None (day-terms (C·Curve .ground) (C·Curve .steps) (now (slots .entry))) (plan None (day-terms (C·Curve .ground) (C·Curve .steps) (now (slots .entry)))) (take (length (now (slots .entry))) (now (leans .exit))) ⌝ }
+    ensures obeys { λ _. ⌜ Obeys None (day-terms (C·Curve .ground) (C·Curve .steps) (now (slots .entry))) (plan None (day-terms (C·Curve .ground) (C·Curve .steps) (now (slots .entry)))) (take (length (now (slots .entry))) (now (leans .exit))) ⌝ }
     ensures beyond { λ _. ⌜ drop (length (now (slots .entry))) (now (leans .exit)) ≡ drop (length (now (slots .entry))) (now (leans .entry)) ⌝ }
 {
-    let count = slots.len();
-    sweep(slots, table, marks);
-    walk_back(marks, count, levels);
-    let levels = &levels[0..count];
-    lean_forward(slots, levels, leans);
-    lean_backward(slots, levels, leans);
+    plan_levels(slots, levels, table, marks);
+    let levels = &levels[0..slots.len()];
+    plan_leans(slots, levels, leans);
     total_price(slots, levels)
 }
 
 impl<'a, C: Curve + Copy> Day<'a, C> {
     // Writes the levels of the cheapest plan that is coldest in every slot, and leans that obey the rules with it, and answers its cost.
-    pub fn plan(&self, levels: &mut [u16], leans: &mut [i64], table: &mut [i64], marks: &mut [u16]) -> Result<i64, Refusal>
+    pub fn plan(
+        &self,
+        levels: &mut [u16],
+        leans: &mut [i64],
+        table: &mut [i64],
+        marks: &mut [u16],
+    ) -> Result<i64, Refusal>
         ensures answer { λ r. ⌜ r ≡ told (plan-refusal (now (self .entry) .count) (length (now (levels .entry))) (length (now (leans .entry))) (length (now (table .entry))) (length (now (marks .entry)))) (price None (day-terms (C·Curve .ground) (C·Curve .steps) (plain (now (self .entry)) .slots)) (plan None (day-terms (C·Curve .ground) (C·Curve .steps) (plain (now (self .entry)) .slots)))) ⌝ }
         ensures levels { λ _. ⌜ now (levels .exit) ≡ planned (plan-refusal (now (self .entry) .count) (length (now (levels .entry))) (length (now (leans .entry))) (length (now (table .entry))) (length (now (marks .entry)))) (plan None (day-terms (C·Curve .ground) (C·Curve .steps) (plain (now (self .entry)) .slots))) (now (levels .entry)) ⌝ }
         ensures leans { λ _. ⌜ Leaned (plan-refusal (now (self .entry) .count) (length (now (levels .entry))) (length (now (leans .entry))) (length (now (table .entry))) (length (now (marks .entry)))) (day-terms (C·Curve .ground) (C·Curve .steps) (plain (now (self .entry)) .slots)) (now (leans .entry)) (now (leans .exit)) ⌝ }
@@ -56,7 +97,11 @@ impl<'a, C: Curve + Copy> Day<'a, C> {
         ensures marks { λ _. ⌜ Spent (plan-refusal (now (self .entry) .count) (length (now (levels .entry))) (length (now (leans .entry))) (length (now (table .entry))) (length (now (marks .entry)))) (now (marks .entry)) (now (marks .exit)) ⌝ }
     {
         let count = self.count;
-        if levels.len() < count || leans.len() < count || table.len() < TABLE_LENGTH || marks.len() < 2 * count {
+        if levels.len() < count
+            || leans.len() < count
+            || table.len() < TABLE_LENGTH
+            || marks.len() < 2 * count
+        {
             return Err(Refusal::Short);
         }
         Ok(plan_slots(&self.slots[0..count], levels, leans, table, marks))

@@ -42,7 +42,10 @@ impl Refusal {
         ensures { λ r. ⌜ r ≡ refusal-slot self ⌝ }
     {
         match self {
-            Refusal::Outside(slot) | Refusal::Lean(slot) | Refusal::Move(slot) | Refusal::Rest(slot) => Some(slot),
+            Refusal::Outside(slot)
+            | Refusal::Lean(slot)
+            | Refusal::Move(slot)
+            | Refusal::Rest(slot) => Some(slot),
             _ => None,
         }
     }

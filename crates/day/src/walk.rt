@@ -12,7 +12,7 @@ pub(crate) fn walk_back(marks: &[u16], count: usize, levels: &mut [u16])
     requires room { ⌜ count ≤ length (now levels) ⌝ }
     ensures { λ _. ⌜ now (levels .exit) ≡ walk-back (take (2 * count) (now (marks .entry))) ++ drop count (now (levels .entry)) ⌝ }
 {
-    let mut level = 0;
+    let mut level: u16 = 0;
     for i in (0..count).rev() {
         level = level.min(marks[2 * i + 1]).max(marks[2 * i]);
         levels[i] = level;

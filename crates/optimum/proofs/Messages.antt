@@ -54,7 +54,7 @@ module _ (message : ℕ → ℤ) (t : Terms) (up down : ℕ) where
   passed-between v from below = grind (arith, tells)
 
   -- the message passed on lies within the tolls
-  passed-tolls : (v : ℕ) → (negℤ (pos down) ≤ℤ passed message t up down v) × (passed message t up down v ≤ℤ pos up)
+  pub passed-tolls : (v : ℕ) → (negℤ (pos down) ≤ℤ passed message t up down v) × (passed message t up down v ≤ℤ pos up)
   unfolding passed
   passed-tolls v = grind (arith, ints, clamps, tells)
 

@@ -33,7 +33,7 @@ module _ (before : Option ℕ) (ts : List Terms) (xs : List ℕ) where
       all-mem (Alone (price before ts) (plan before ts)) (plans-all ts xs (cheapest .within)) alone (cheapest .least (plan before ts) (found .within))
 
   -- so the coldest plan is the plan of the day
-  plan-found : Coldest before ts xs → plan before ts ≡ xs
+  pub plan-found : Coldest before ts xs → plan before ts ≡ xs
   plan-found c = plan-first (c .cheapest) (c .coldest (plan before ts) (plan-cheapest (c .cheapest .within)))
 
 -- the plan of the day is the walk of the sweep

@@ -4,8 +4,8 @@ use mathlib.Core.Path.{_≡_, sym, _∙_, ap, subst}
 use Prim.Native.Nat.{ℕ, _*_, _≤_}
 use native.Mathlib.Omega.{arith}
 use lib.IntN.{ℤ, pos}
-use lib.ListN.{length, take}
-use lib.Seq.{take-append-le, take-all}
+use lib.ListN.{length, take, drop}
+use lib.Seq.{take-append-le, take-all, drop-append-seam}
 use Rattle.std.specs.declared.option.Option.the-variants.{None}
 use Rattle.std.specs.shelf.Lists.{All}
 use Rattle.optimum.specs.Coldest.{plan}
@@ -23,6 +23,10 @@ use Rattle.optimum.proofs.Sweep.{walk}
 -- the first of a list that begins with another
 pub front : {X : Type 0} (n : ℕ) (xs ys : List X) → n ≡ length xs → take n (xs ++ ys) ≡ xs
 front n xs ys same = take-append-le n xs ys (omega arith) ∙ take-all n xs (omega arith)
+
+-- and what is behind it
+pub behind : {X : Type 0} (n : ℕ) (xs ys : List X) → n ≡ length xs → drop n (xs ++ ys) ≡ ys
+behind n xs ys same = rw same (drop-append-seam xs ys)
 
 module _ (ts : List Terms) (convex : All Convex ts) (opens : All Open ts) where
   -- the plan is what the walk finds

@@ -1,6 +1,7 @@
 // The calls that a run is made of, and what each is answered.
 use day::refusal::Refusal;
-use day::slot::{Slot, SlotClone};
+use day::slot::Slot;
+use day::slot::SlotClone;
 
 // The lengths of the buffers that are lent for a plan.
 #[derive(Clone, Copy)]
@@ -25,7 +26,11 @@ pub enum Call<'c, C> {
 pub enum Answer {
     Done,
     Cost(i64),
-    Planned { cost: i64, levels: Vec<u16>, leans: Vec<i64> },
+    Planned {
+        cost: i64,
+        levels: Vec<u16>,
+        leans: Vec<i64>,
+    },
     Refused(Refusal),
 }
 

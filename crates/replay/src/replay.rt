@@ -7,12 +7,17 @@ ghost use Rattle.day.specs.Refusals.{told};
 ghost use Rattle.day.specs.View.{plain, memory-of, empty-day};
 ghost use Rattle.replay.specs.PlainRun.{told-by, after, memory-after, memory-after-all, calls-made, terms, answer as plain-answer};
 ghost use Rattle.replay.specs.Promise.{Leaning, Promise};
-use crate::call::{Answer, Buffers, Call, Moment, Unfinished};
+use crate::call::Answer;
+use crate::call::Buffers;
+use crate::call::Call;
+use crate::call::Moment;
+use crate::call::Unfinished;
 use curve::Curve;
 use day::check::CheckedPlan;
 use day::day::Day;
 use day::refusal::Refusal;
-use day::slot::{Slot, SlotClone};
+use day::slot::Slot;
+use day::slot::SlotClone;
 use std::alloc::AllocError;
 use std::alloc::Global;
 
@@ -38,7 +43,11 @@ fn check_answer(checked: Result<CheckedPlan<'_>, Refusal>) -> Answer {
 }
 
 // Plans with buffers of the given lengths, and answers the places of the day's slots.
-fn plan_answer<C: Curve + Copy>(heap: Global, day: &Day<'_, C>, buffers: Buffers) -> Result<Answer, AllocError> {
+fn plan_answer<C: Curve + Copy>(
+    heap: Global,
+    day: &Day<'_, C>,
+    buffers: Buffers,
+) -> Result<Answer, AllocError> {
     let count = day.slots().len();
     let mut levels = vec![in heap; 0u16; buffers.levels]?;
     let mut leans = vec![in heap; 0i64; buffers.leans]?;
@@ -48,14 +57,22 @@ fn plan_answer<C: Curve + Copy>(heap: Global, day: &Day<'_, C>, buffers: Buffers
         Ok(cost) => {
             levels.truncate(count);
             leans.truncate(count);
-            Ok(Answer::Planned { cost, levels, leans })
+            Ok(Answer::Planned {
+                cost,
+                levels,
+                leans,
+            })
         }
         Err(refusal) => Ok(Answer::Refused(refusal)),
     }
 }
 
 // Makes one call on a day.
-fn make<C: Curve + Copy>(heap: Global, day: &mut Day<'_, C>, call: &Call<'_, C>) -> Result<Answer, AllocError>
+fn make<C: Curve + Copy>(
+    heap: Global,
+    day: &mut Day<'_, C>,
+    call: &Call<'_, C>,
+) -> Result<Answer, AllocError>
     ensures day { λ _. ⌜ plain (now (day .exit)) ≡ after (plain (now (day .entry))) (now (call .entry)) ⌝ }
     ensures memory { λ _. ⌜ memory-of (now (day .exit)) ≡ memory-after (plain (now (day .entry))) (memory-of (now (day .entry))) (now (call .entry)) ⌝ }
     ensures lender { λ _. ⌜ name (now (day .exit) .slots) ≡ name (now (day .entry) .slots) ⌝ }
@@ -73,14 +90,23 @@ fn make<C: Curve + Copy>(heap: Global, day: &mut Day<'_, C>, call: &Call<'_, C>)
 }
 
 // Notes an answer with the day's slots.
-fn note<C: Copy>(heap: Global, moments: &mut Vec<Moment<C>>, day: &Day<'_, C>, answer: Answer) -> Result<(), AllocError> {
+fn note<C: Copy>(
+    heap: Global,
+    moments: &mut Vec<Moment<C>>,
+    day: &Day<'_, C>,
+    answer: Answer,
+) -> Result<(), AllocError> {
     let slots = Vec::from_slice(heap, day.slots())?;
     moments.push(Moment { answer, slots })?;
     Ok(())
 }
 
 // Opens a new day on slot memory, makes the calls in their order, and hands back one moment a call.
-pub fn replay<C: Curve + Copy>(heap: Global, memory: &mut [Slot<C>], calls: &[Call<'_, C>]) -> Result<Vec<Moment<C>>, Unfinished>
+pub fn replay<C: Curve + Copy>(
+    heap: Global,
+    memory: &mut [Slot<C>],
+    calls: &[Call<'_, C>],
+) -> Result<Vec<Moment<C>>, Unfinished>
     ensures promise { λ r. ⌜ made r (λ moments. Promise (C·Curve .ground) (C·Curve .steps) (now (memory .entry)) (now (calls .entry)) (vec-items moments)) ⌝ }
     ensures memory { λ r. ⌜ now (memory .exit) ≡ memory-after-all (empty-day (now (memory .entry))) (now (memory .entry)) (calls-made r (now (calls .entry))) ⌝ }
 {

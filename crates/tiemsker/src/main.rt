@@ -1,12 +1,20 @@
 // Prints what a few levels cost on one curve of each kind.
 use curve::Curve;
-use curve::band::{Band, BandCurve};
+use curve::band::Band;
+use curve::band::BandCurve;
 use curve::cost::cost_at;
-use curve::fault::{CurveFault, CurveFaultDisplay, CurveFaultDebug, CurveFaultError};
-use curve::knees::{Knees, KneesCurve};
-use curve::pair::{Pair, PairCurve};
-use curve::square::{Square, SquareCurve};
-use curve::written::{Written, WrittenCurve};
+use curve::fault::CurveFault;
+use curve::fault::CurveFaultDebug;
+use curve::fault::CurveFaultDisplay;
+use curve::fault::CurveFaultError;
+use curve::knees::Knees;
+use curve::knees::KneesCurve;
+use curve::pair::Pair;
+use curve::pair::PairCurve;
+use curve::square::Square;
+use curve::square::SquareCurve;
+use curve::written::Written;
+use curve::written::WrittenCurve;
 use std::error::AnyError;
 use std::io;
 
@@ -43,7 +51,14 @@ fn print_table(rt: &LibcRuntime) -> Result<(), AnyError> {
     print_costs(rt, "square", &square()?)?;
     print_costs(rt, "band", &band()?)?;
     print_costs(rt, "knees", &knees()?)?;
-    print_costs(rt, "written", &Written::Square { weight: 1, target: 10 })?;
+    print_costs(
+        rt,
+        "written",
+        &Written::Square {
+            weight: 1,
+            target: 10,
+        },
+    )?;
     print_costs(rt, "pair of two pairs", &main_of_four()?)?;
     Ok(())
 }
