@@ -24,26 +24,26 @@ after-more : (n : ℕ) (place : Option ℕ) → after n (mapped suc place) ≡ a
 after-more n None = refl
 after-more n (Some k) = ap Some (omega arith)
 
--- where one place further there is none, there is none
-none-before : (place : Option ℕ) → mapped suc place ≡ None → place ≡ None
-none-before None e = refl
-none-before (Some k) e = let z : _≡_ {A = ℕ} 0 1 = cc in absurd (omega arith)
+-- where nothing is made of a place, there is none
+pub none-mapped : {X : Type 0} (make : ℕ → X) (place : Option ℕ) → mapped make place ≡ None → place ≡ None
+none-mapped make None e = refl
+none-mapped make (Some k) e = grind arith
 
 module _ {X : Type 0} (test : X → Bool) where
-  -- an element that passes is passed by
-  pub earliest-more : (n : ℕ) (x : X) (xs : List X) → test x ≡ true → after n (earliest test (x ∷ xs)) ≡ after (n + 1) (earliest test xs)
+  -- where the first of what is left passes, it is passed by
+  pub earliest-more : (left : List X) (x : X) (xs : List X) (n : ℕ) → left ≡ x ∷ xs → test x ≡ true → after n (earliest test left) ≡ after (n + 1) (earliest test xs)
   unfolding earliest
-  earliest-more n x xs pass = rw pass (after-more n (earliest test xs))
+  earliest-more left x xs n first pass = rw (first, pass) (after-more n (earliest test xs))
 
-  -- an element that fails is the place
-  pub earliest-here : (n : ℕ) (x : X) (xs : List X) → test x ≡ false → after n (earliest test (x ∷ xs)) ≡ Some n
+  -- where it fails, it is the place
+  pub earliest-here : (left : List X) (x : X) (xs : List X) (n : ℕ) → left ≡ x ∷ xs → test x ≡ false → after n (earliest test left) ≡ Some n
   unfolding earliest
-  earliest-here n x xs fail = rw fail (ap Some (omega arith))
+  earliest-here left x xs n first fail = rw (first, fail) (ap Some (omega arith))
 
-  -- at the end there is no such place
-  pub earliest-end : (n : ℕ) → after n (earliest test []) ≡ None
+  -- where nothing is left there is no such place
+  pub earliest-end : (left : List X) (n : ℕ) → left ≡ [] → after n (earliest test left) ≡ None
   unfolding earliest
-  earliest-end n = refl
+  earliest-end left n over = rw over
 
   -- where each element passes there is no such place
   pub none-from-all : (xs : List X) → All (λ x. test x ≡ true) xs → earliest test xs ≡ None
@@ -58,5 +58,5 @@ module _ {X : Type 0} (test : X → Bool) where
   all-from-none (x ∷ xs) e = split (test x) refl (all-from-none xs)
     where
       split : (t : Bool) → test x ≡ t → (earliest test xs ≡ None → All (λ x. test x ≡ true) xs) → (test x ≡ true) × All (λ x. test x ≡ true) xs
-      split true p rest = (p, rest (none-before (earliest test xs) (rw p at e)))
+      split true p rest = (p, rest (none-mapped suc (earliest test xs) (rw p at e)))
       split false p rest = let found = rw p at e in let z : _≡_ {A = ℕ} 0 1 = cc in absurd (omega arith)

@@ -1,5 +1,5 @@
+pub mod Acceptance
 pub mod BackwardPass
-pub mod Breaks
 pub mod Convexity
 pub mod Earliest
 pub mod FirstLevels
@@ -9,10 +9,10 @@ pub mod Outside
 pub mod PlainEdits
 pub mod Prices
 pub mod ProperSlots
+pub mod SlotPlans
 pub mod SlotReads
 pub mod SlotSizes
 pub mod SlotSweeps
-pub mod SlotPlans
 pub mod Stands
 pub mod Swept
 pub mod Tables

@@ -2,7 +2,7 @@
 use mathlib.Core.Bool.{true, false}
 use mathlib.Core.List.{List, [], _∷_}
 use mathlib.Core.Logic.{_⊎_, inl, inr}
-use mathlib.Core.Path.{_≡_}
+use mathlib.Core.Path.{_≡_, refl}
 use Prim.Native.Nat.{ℕ, _+_, _≤_}
 use native.Mathlib.Omega.{arith}
 use lib.IntN.{ℤ}
@@ -29,19 +29,19 @@ module _ {C : Type 0} (ground : C → ℤ) (steps : C → ℕ → ℤ) where
   pub outside-more :
       (n m : ℕ) (s : Slot C) (ss : List (Slot C)) (x : ℕ) (xs : List ℕ) {slots : List (Slot C)} {levels : List ℕ} → slots ≡ s ∷ ss → levels ≡ x ∷ xs →
       inside (slot-terms ground steps s, x) ≡ true → m ≡ n + 1 → after n (outside slots levels) ≡ after m (outside ss xs)
-  outside-more n m s ss x xs p q within next = rw (p, q, next) (earliest-more inside n _ _ within)
+  outside-more n m s ss x xs p q within next = rw (p, q, next) (earliest-more inside _ _ _ n refl within)
 
   -- a level out of bounds is found at its slot
   pub outside-here :
       (n m : ℕ) (s : Slot C) (ss : List (Slot C)) (x : ℕ) (xs : List ℕ) {slots : List (Slot C)} {levels : List ℕ} → slots ≡ s ∷ ss → levels ≡ x ∷ xs →
       inside (slot-terms ground steps s, x) ≡ false → m ≡ n → after n (outside slots levels) ≡ Some m
-  outside-here n m s ss x xs p q out here = rw (p, q, here) (earliest-here inside n _ _ out)
+  outside-here n m s ss x xs p q out here = rw (p, q, here) (earliest-here inside _ _ _ n refl out)
 
   -- at the end none is found
   pub outside-end : (n : ℕ) (slots : List (Slot C)) (levels : List ℕ) → (slots ≡ []) ⊎ (levels ≡ []) → after n (outside slots levels) ≡ None
-  outside-end n slots levels (inl e) = rw e (earliest-end inside n)
-  outside-end n [] levels (inr e) = earliest-end inside n
-  outside-end n (s ∷ ss) levels (inr e) = rw e (earliest-end inside n)
+  outside-end n slots levels (inl e) = rw e (earliest-end inside _ n refl)
+  outside-end n [] levels (inr e) = earliest-end inside _ n refl
+  outside-end n (s ∷ ss) levels (inr e) = rw e (earliest-end inside _ n refl)
 
   -- levels within the bounds of proper slots are not above the warmest
   pub levels-low : (slots : List (Slot C)) (levels : List ℕ) → all-proper slots ≡ true → length levels ≡ length slots → All (λ p. inside p ≡ true) (zipped (day-terms ground steps slots) levels) → All (λ x. x ≤ top) levels

@@ -32,6 +32,11 @@ next-lean-left [] (suc i) = refl
 next-lean-left (l ∷ leans) zero = refl
 next-lean-left (l ∷ leans) (suc i) = next-lean-left leans i
 
+-- what asks nothing holds of all
+pub all-free : {X : Type 0} (xs : List X) → All (λ _. Unit {0}) xs
+all-free [] = tt
+all-free (x ∷ xs) = (tt, all-free xs)
+
 module _ {C : Type 0} (ground : C → ℤ) (steps : C → ℕ → ℤ) where
   -- the slots from a place on
   abbrev pub stands-left : Option ℕ → List (Slot C) → List ℕ → List ℤ → ℕ → List Stand

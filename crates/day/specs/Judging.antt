@@ -30,13 +30,14 @@ abbrev pub price-refusal : List Terms → List ℕ → Option Refusal
 price-refusal ts xs = first-refusal (broken ((eqb (length xs) (length ts), Count) ∷ []) ∷ mapped Outside (earliest inside (zipped ts xs)) ∷ [])
 
 -- one level and one lean for each slot, each level within its bounds, and then the three rules of leans, each tried on all slots before the next
-abbrev pub check-refusal : List Terms → List ℕ → List ℤ → Option Refusal
-check-refusal ts xs ls =
-    first-refusal (
+abbrev pub check-rules : List Terms → List ℕ → List ℤ → List (Option Refusal)
+check-rules ts xs ls =
     broken ((eqb (length xs) (length ts) && eqb (length ls) (length ts), Count) ∷ [])
     ∷ mapped Outside (earliest inside (zipped ts xs))
     ∷ mapped Lean (earliest bounded (stands None ts xs ls))
     ∷ mapped Move (earliest follows-move (stands None ts xs ls))
     ∷ mapped Rest (earliest at-rest (stands None ts xs ls))
     ∷ []
-    )
+
+abbrev pub check-refusal : List Terms → List ℕ → List ℤ → Option Refusal
+check-refusal ts xs ls = first-refusal (check-rules ts xs ls)

@@ -51,7 +51,7 @@ fn toll_for(each: u32, levels: u16) -> i64
 }
 
 // The toll for coming into a slot at a level.
-fn toll_into<C: Curve>(slot: &Slot<C>, before: Option<u16>, level: u16) -> i64
+pub fn toll_into<C: Curve>(slot: &Slot<C>, before: Option<u16>, level: u16) -> i64
     ensures value { λ r. ⌜ r ≡ toll (slot-terms (C·Curve .ground) (C·Curve .steps) (now (slot .entry))) before level ⌝ }
     ensures size { λ r. ⌜ (pos 0 ≤ℤ r) × (r ≤ℤ pos (2 ^ 48)) ⌝ }
 {

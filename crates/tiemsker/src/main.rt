@@ -1,68 +1,65 @@
-// Prints what a few levels cost on one curve of each kind.
-use curve::Curve;
-use curve::band::Band;
-use curve::band::BandCurve;
+// Plans a day of three slots, checks the plan, follows it, and prints what it costs.
 use curve::cost::cost_at;
-use curve::fault::CurveFault;
-use curve::fault::CurveFaultDebug;
-use curve::fault::CurveFaultDisplay;
-use curve::fault::CurveFaultError;
-use curve::knees::Knees;
-use curve::knees::KneesCurve;
-use curve::pair::Pair;
-use curve::pair::PairCurve;
-use curve::square::Square;
-use curve::square::SquareCurve;
-use curve::written::Written;
-use curve::written::WrittenCurve;
+use curve::fault::{CurveFault, CurveFaultDebug, CurveFaultDisplay, CurveFaultError};
+use curve::limits::TOP;
+use curve::square::{Square, SquareCurve};
+use day::check::CheckedPlan;
+use day::day::Day;
+use day::limits::TABLE_LENGTH;
+use day::price::toll_into;
+use day::refusal::{Refusal, RefusalDebug, RefusalDisplay, RefusalError};
+use day::slot::Slot;
 use std::error::AnyError;
 use std::io;
 
-fn square() -> Result<Square, CurveFault> {
-    Square::new(1, 10)
+// A slot that costs the square of the distance from a target, with a toll of 4 for each level up or down.
+fn slot(target: u16) -> Result<Slot<Square>, CurveFault> {
+    Ok(Slot {
+        curve: Square::new(1, target)?,
+        low: 0,
+        high: TOP,
+        up: 4,
+        down: 4,
+    })
 }
 
-fn band() -> Result<Band, CurveFault> {
-    Band::new(5, 9, 3, 4)
-}
-
-fn knees() -> Result<Knees, CurveFault> {
-    Knees::new(12, -3, 2, [4, 6, 0, 0, 0, 0], [0, 5, 0, 0, 0, 0])
-}
-
-// Four rinks on one main: a pair of two pairs.
-fn main_of_four() -> Result<Pair<Pair<Square, Band>, Pair<Knees, Square>>, CurveFault> {
-    let first = Pair::new(square()?, band()?)?;
-    let second = Pair::new(knees()?, square()?)?;
-    Pair::new(first, second)
-}
-
-fn print_costs<C: Curve>(rt: &LibcRuntime, name: &str, curve: &C) -> io::Result<()> {
-    print!(rt, "{name}:")?;
-    for level in [0u16, 4, 6, 7, 10, 1023] {
-        if let Some(cost) = cost_at(curve, level) {
-            print!(rt, " {cost} at {level}")?;
-        }
+// Follows a checked plan, a line a slot: slot, level, curve cost, toll paid.
+fn print_followed(rt: &LibcRuntime, slots: &[Slot<Square>], plan: CheckedPlan<'_>) -> io::Result<()> {
+    let mut following = plan.follow();
+    let mut before = None;
+    for (i, slot) in slots.iter().enumerate() {
+        let Some(level) = following.next_level() else {
+            break;
+        };
+        let cost = cost_at(&slot.curve, level).unwrap_or(0);
+        let toll = toll_into(slot, before, level);
+        println!(rt, "{i} {level} {cost} {toll}")?;
+        before = Some(level);
     }
-    println!(rt, "")
+    let _ = following.end();
+    Ok(())
 }
 
-fn print_table(rt: &LibcRuntime) -> Result<(), AnyError> {
-    print_costs(rt, "square", &square()?)?;
-    print_costs(rt, "band", &band()?)?;
-    print_costs(rt, "knees", &knees()?)?;
-    print_costs(
-        rt,
-        "written",
-        &Written::Square {
-            weight: 1,
-            target: 10,
-        },
-    )?;
-    print_costs(rt, "pair of two pairs", &main_of_four()?)?;
+fn print_plan(rt: &LibcRuntime) -> Result<(), AnyError> {
+    let cold = slot(10)?;
+    let mut memory = [cold; 3];
+    let mut day = Day::open(&mut memory);
+    day.add(cold)?;
+    day.add(slot(20)?)?;
+    day.add(cold)?;
+    let mut levels = [0u16; 3];
+    let mut leans = [0i64; 3];
+    let mut table = [0i64; TABLE_LENGTH];
+    let mut marks = [0u16; 6];
+    day.plan(&mut levels, &mut leans, &mut table, &mut marks)?;
+    let plan = day.check(&levels, &leans)?;
+    let count = day.slots().len();
+    let cost = plan.cost();
+    println!(rt, "slots {count} cost {cost}")?;
+    print_followed(rt, day.slots(), plan)?;
     Ok(())
 }
 
 fn main(rt: LibcRuntime) -> Result<(), AnyError> {
-    rt.report(print_table(&rt))
+    rt.report(print_plan(&rt))
 }

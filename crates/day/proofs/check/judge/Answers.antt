@@ -2,8 +2,8 @@ use mathlib.Core.Path.{sym}
 use native.Mathlib.Omega.{arith}
 use Rattle.std.proofs.shelf.Lists.{length-map}
 use Rattle.std.proofs.shelf.Ways.{tells}
-use Rattle.day.proofs.Breaks.{all-free, all-passed}
-use Rattle.day.proofs.Stands.{stands-small}
+use Rattle.day.proofs.Earliest.{all-from-none}
+use Rattle.day.proofs.Stands.{all-free, stands-small}
 use Rattle.day.proofs.check.judge.Needs as need
 
 pub returns-then-levels-slots : need.returns-then-levels-slots
@@ -28,7 +28,7 @@ pub first-break-requires-3 : need.first-break-requires-3
 first-break-requires-3 g c κs =
     record {
       one-each = (omega arith, omega arith);
-      given = stands-small _ _ _ (c .args .slots .now) (c .args .levels .now) (c .args .leans .now) (omega arith) (omega arith) (c .pre .proper) (all-passed _ _ (sym (c .in-rest .ensures tt))) (all-passed _ _ (sym (c .in-rest-first-break .ensures tt)));
+      given = stands-small _ _ _ (c .args .slots .now) (c .args .levels .now) (c .args .leans .now) (omega arith) (omega arith) (c .pre .proper) (all-from-none _ _ (sym (c .in-rest .ensures tt))) (all-from-none _ _ (sym (c .in-rest-first-break .ensures tt)));
     }
 
 pub returns-in-Some-first-break-3 : need.returns-in-Some-first-break-3
