@@ -21,6 +21,10 @@ abbrev pub plan-refusal : ℕ → ℕ → ℕ → ℕ → ℕ → Option Refusal
 plan-refusal n levels leans table marks =
     broken ((leb n levels && leb n leans && leb table-length table && leb (2 * n) marks, Short) ∷ [])
 
+-- the same, with the buffers themselves
+abbrev pub short-for : ℕ → List ℕ → List ℤ → List ℤ → List ℕ → Option Refusal
+short-for n levels leans table marks = plan-refusal n (length levels) (length leans) (length table) (length marks)
+
 -- the levels are those of the plan, and the places beyond the day are as they were
 abbrev pub planned : Option Refusal → List ℕ → List ℕ → List ℕ
 planned None xs levels = xs ++ drop (length xs) levels

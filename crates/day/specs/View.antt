@@ -2,11 +2,13 @@
 use mathlib.Core.List.{List, []}
 use Prim.Native.Nat.{ℕ, min}
 use denote.Ref.{now}
+use lib.IntN.{ℤ}
 use lib.ListN.{length, take, set}
 use Rattle.std.specs.declared.option.Option.{Option}
 use Rattle.std.specs.declared.option.Option.the-variants.{Some, None}
 use Rattle.day.specs.Limits.{most-slots}
-use Rattle.day.specs.PlainDay.{PlainDay}
+use Rattle.optimum.specs.Plans.{Terms}
+use Rattle.day.specs.PlainDay.{PlainDay, day-terms}
 use Rattle.day.specs.declared.day.Day.{Day}
 use Rattle.day.specs.declared.refusal.Refusal.{Refusal}
 use Rattle.day.specs.declared.slot.Slot.{Slot}
@@ -18,6 +20,10 @@ room-of memory = min most-slots (length memory)
 -- the slots are the first of the memory
 abbrev pub plain : {C : Type 0} → Day C → PlainDay C
 plain d = record { room = room-of (now (d .slots)); slots = take (d .count) (now (d .slots)) }
+
+-- the terms of its slots, with what their curves mean
+abbrev pub terms-of : {C : Type 0} → (C → ℤ) → (C → ℕ → ℤ) → Day C → List Terms
+terms-of ground steps d = day-terms ground steps (plain d .slots)
 
 -- what the lent memory holds
 abbrev pub memory-of : {C : Type 0} → Day C → List (Slot C)

@@ -14,7 +14,7 @@ ghost use Rattle.day.specs.Limits.{most-slots};
 ghost use Rattle.day.specs.PlainDay.{day-terms};
 ghost use Rattle.day.specs.Refusals.{told};
 ghost use Rattle.day.specs.Slots.{all-proper};
-ghost use Rattle.day.specs.View.{plain};
+ghost use Rattle.day.specs.View.{terms-of};
 use crate::day::Day;
 use crate::price::first_outside;
 use crate::price::total_price;
@@ -103,7 +103,7 @@ fn judge<C: Curve>(slots: &[Slot<C>], levels: &[u16], leans: &[i64]) -> Result<i
 impl<'a, C: Curve + Copy> Day<'a, C> {
     // A plan and leans from any source: a checked plan, or the first rule that is broken.
     pub fn check<'l>(&self, levels: &'l [u16], leans: &[i64]) -> Result<CheckedPlan<'l>, Refusal>
-        ensures { λ r. ⌜ Answers r (check-refusal (day-terms (C·Curve .ground) (C·Curve .steps) (plain (now (self .entry)) .slots)) (now (levels .entry)) (now (leans .entry))) (λ p. (p .levels ≡ levels .entry) × (p .cost ≡ price None (day-terms (C·Curve .ground) (C·Curve .steps) (plain (now (self .entry)) .slots)) (now (levels .entry)))) ⌝ }
+        ensures { λ r. ⌜ Answers r (check-refusal (terms-of (C·Curve .ground) (C·Curve .steps) (now (self .entry))) (now (levels .entry)) (now (leans .entry))) (λ p. (p .levels ≡ levels .entry) × (p .cost ≡ price None (terms-of (C·Curve .ground) (C·Curve .steps) (now (self .entry))) (now (levels .entry)))) ⌝ }
     {
         let cost = judge(&self.slots[0..self.count], levels, leans)?;
         Ok(CheckedPlan { levels, cost })

@@ -10,10 +10,10 @@ ghost use Rattle.optimum.specs.Leans.{Obeys};
 ghost use Rattle.optimum.specs.Plans.{price};
 ghost use Rattle.day.specs.Limits.{most-slots, table-length};
 ghost use Rattle.day.specs.PlainDay.{day-terms};
-ghost use Rattle.day.specs.Planning.{plan-refusal, planned, Leaned, Spent};
+ghost use Rattle.day.specs.Planning.{short-for, planned, Leaned, Spent};
 ghost use Rattle.day.specs.Refusals.{told};
 ghost use Rattle.day.specs.Slots.{all-proper};
-ghost use Rattle.day.specs.View.{plain};
+ghost use Rattle.day.specs.View.{terms-of};
 use crate::day::Day;
 use crate::leans::lean_backward;
 use crate::leans::lean_forward;
@@ -90,11 +90,11 @@ impl<'a, C: Curve + Copy> Day<'a, C> {
         table: &mut [i64],
         marks: &mut [u16],
     ) -> Result<i64, Refusal>
-        ensures answer { λ r. ⌜ r ≡ told (plan-refusal (now (self .entry) .count) (length (now (levels .entry))) (length (now (leans .entry))) (length (now (table .entry))) (length (now (marks .entry)))) (price None (day-terms (C·Curve .ground) (C·Curve .steps) (plain (now (self .entry)) .slots)) (plan None (day-terms (C·Curve .ground) (C·Curve .steps) (plain (now (self .entry)) .slots)))) ⌝ }
-        ensures levels { λ _. ⌜ now (levels .exit) ≡ planned (plan-refusal (now (self .entry) .count) (length (now (levels .entry))) (length (now (leans .entry))) (length (now (table .entry))) (length (now (marks .entry)))) (plan None (day-terms (C·Curve .ground) (C·Curve .steps) (plain (now (self .entry)) .slots))) (now (levels .entry)) ⌝ }
-        ensures leans { λ _. ⌜ Leaned (plan-refusal (now (self .entry) .count) (length (now (levels .entry))) (length (now (leans .entry))) (length (now (table .entry))) (length (now (marks .entry)))) (day-terms (C·Curve .ground) (C·Curve .steps) (plain (now (self .entry)) .slots)) (now (leans .entry)) (now (leans .exit)) ⌝ }
-        ensures table { λ _. ⌜ Spent (plan-refusal (now (self .entry) .count) (length (now (levels .entry))) (length (now (leans .entry))) (length (now (table .entry))) (length (now (marks .entry)))) (now (table .entry)) (now (table .exit)) ⌝ }
-        ensures marks { λ _. ⌜ Spent (plan-refusal (now (self .entry) .count) (length (now (levels .entry))) (length (now (leans .entry))) (length (now (table .entry))) (length (now (marks .entry)))) (now (marks .entry)) (now (marks .exit)) ⌝ }
+        ensures answer { λ r. ⌜ r ≡ told (short-for (now (self .entry) .count) (now (levels .entry)) (now (leans .entry)) (now (table .entry)) (now (marks .entry))) (price None (terms-of (C·Curve .ground) (C·Curve .steps) (now (self .entry))) (plan None (terms-of (C·Curve .ground) (C·Curve .steps) (now (self .entry))))) ⌝ }
+        ensures levels { λ _. ⌜ now (levels .exit) ≡ planned (short-for (now (self .entry) .count) (now (levels .entry)) (now (leans .entry)) (now (table .entry)) (now (marks .entry))) (plan None (terms-of (C·Curve .ground) (C·Curve .steps) (now (self .entry)))) (now (levels .entry)) ⌝ }
+        ensures leans { λ _. ⌜ Leaned (short-for (now (self .entry) .count) (now (levels .entry)) (now (leans .entry)) (now (table .entry)) (now (marks .entry))) (terms-of (C·Curve .ground) (C·Curve .steps) (now (self .entry))) (now (leans .entry)) (now (leans .exit)) ⌝ }
+        ensures table { λ _. ⌜ Spent (short-for (now (self .entry) .count) (now (levels .entry)) (now (leans .entry)) (now (table .entry)) (now (marks .entry))) (now (table .entry)) (now (table .exit)) ⌝ }
+        ensures marks { λ _. ⌜ Spent (short-for (now (self .entry) .count) (now (levels .entry)) (now (leans .entry)) (now (table .entry)) (now (marks .entry))) (now (marks .entry)) (now (marks .exit)) ⌝ }
     {
         let count = self.count;
         if levels.len() < count

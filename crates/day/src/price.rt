@@ -16,7 +16,7 @@ ghost use Rattle.day.specs.Limits.{most-slots};
 ghost use Rattle.day.specs.PlainDay.{slot-terms, day-terms};
 ghost use Rattle.day.specs.Refusals.{told};
 ghost use Rattle.day.specs.Slots.{all-proper};
-ghost use Rattle.day.specs.View.{plain};
+ghost use Rattle.day.specs.View.{terms-of};
 use crate::day::Day;
 use crate::refusal::Refusal;
 use crate::slot::Slot;
@@ -91,7 +91,7 @@ pub(crate) fn total_price<C: Curve>(slots: &[Slot<C>], levels: &[u16]) -> i64
 impl<'a, C: Curve + Copy> Day<'a, C> {
     // The price of a plan.
     pub fn price(&self, levels: &[u16]) -> Result<i64, Refusal>
-        ensures { λ r. ⌜ r ≡ told (price-refusal (day-terms (C·Curve .ground) (C·Curve .steps) (plain (now (self .entry)) .slots)) (now (levels .entry))) (price None (day-terms (C·Curve .ground) (C·Curve .steps) (plain (now (self .entry)) .slots)) (now (levels .entry))) ⌝ }
+        ensures { λ r. ⌜ r ≡ told (price-refusal (terms-of (C·Curve .ground) (C·Curve .steps) (now (self .entry))) (now (levels .entry))) (price None (terms-of (C·Curve .ground) (C·Curve .steps) (now (self .entry))) (now (levels .entry))) ⌝ }
     {
         let slots = &self.slots[0..self.count];
         if levels.len() != slots.len() {

@@ -1,13 +1,20 @@
 // Plans a day of three slots, checks the plan, follows it, and prints what it costs.
 use curve::cost::cost_at;
-use curve::fault::{CurveFault, CurveFaultDebug, CurveFaultDisplay, CurveFaultError};
+use curve::fault::CurveFault;
+use curve::fault::CurveFaultDebug;
+use curve::fault::CurveFaultDisplay;
+use curve::fault::CurveFaultError;
 use curve::limits::TOP;
-use curve::square::{Square, SquareCurve};
+use curve::square::Square;
+use curve::square::SquareCurve;
 use day::check::CheckedPlan;
 use day::day::Day;
 use day::limits::TABLE_LENGTH;
 use day::price::toll_into;
-use day::refusal::{Refusal, RefusalDebug, RefusalDisplay, RefusalError};
+use day::refusal::Refusal;
+use day::refusal::RefusalDebug;
+use day::refusal::RefusalDisplay;
+use day::refusal::RefusalError;
 use day::slot::Slot;
 use std::error::AnyError;
 use std::io;
@@ -24,7 +31,11 @@ fn slot(target: u16) -> Result<Slot<Square>, CurveFault> {
 }
 
 // Follows a checked plan, a line a slot: slot, level, curve cost, toll paid.
-fn print_followed(rt: &LibcRuntime, slots: &[Slot<Square>], plan: CheckedPlan<'_>) -> io::Result<()> {
+fn print_followed(
+    rt: &LibcRuntime,
+    slots: &[Slot<Square>],
+    plan: CheckedPlan<'_>,
+) -> io::Result<()> {
     let mut following = plan.follow();
     let mut before = None;
     for (i, slot) in slots.iter().enumerate() {
