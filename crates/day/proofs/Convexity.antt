@@ -1,15 +1,20 @@
 -- The terms of a day's slots are such as the theorems on leans and plans ask for.
 use mathlib.Core.Bool.{true}
 use mathlib.Core.List.{List}
-use mathlib.Core.Path.{_≡_, refl}
+use mathlib.Core.Path.{_≡_, refl, _∙_}
 use Prim.Native.Nat.{ℕ, suc, _<_}
 use native.Mathlib.Omega.{arith}
 use lib.IntN.{ℤ}
+use lib.ListN.{length}
 use lib.Signed.{_≤ℤ_}
+use Rattle.std.specs.declared.option.Option.the-variants.{None}
+use Rattle.std.proofs.shelf.Lists.{length-map}
 use Rattle.std.specs.shelf.Lists.{All}
 use Rattle.std.proofs.shelf.Elements.{all-map, all-weaker}
 use Rattle.std.proofs.shelf.Ways.{tells, decides-by-and}
 use Rattle.curve.specs.Limits.{last-step}
+use Rattle.optimum.specs.Coldest.{plan}
+use Rattle.optimum.proofs.Planned.{plan-length}
 use Rattle.optimum.specs.Theorems.{Convex, Open}
 use Rattle.day.specs.PlainDay.{slot-terms, day-terms}
 use Rattle.day.specs.Slots.{proper, all-proper}
@@ -33,3 +38,9 @@ module _ {C : Type 0} (ground : C → ℤ) (steps : C → ℕ → ℤ) where
       ((c : C) (v : ℕ) → v < last-step → steps c v ≤ℤ steps c (suc v)) →
       (slots : List (Slot C)) → all-proper slots ≡ true → All Convex (day-terms ground steps slots)
   all-convex rising = all-terms Convex (λ s good v below. rising (s .curve) v (grind (arith, tells)))
+
+  -- so their plan has one level for each slot
+  pub plan-each :
+      ((c : C) (v : ℕ) → v < last-step → steps c v ≤ℤ steps c (suc v)) →
+      (slots : List (Slot C)) → all-proper slots ≡ true → length (plan None (day-terms ground steps slots)) ≡ length slots
+  plan-each rising slots good = plan-length (day-terms ground steps slots) (all-convex rising slots good) (all-open slots good) ∙ length-map slots (slot-terms ground steps)

@@ -20,13 +20,13 @@ use Rattle.optimum.proofs.LeanPasses.{forward, backward}
 use Rattle.optimum.proofs.LeanSizes.{Sized, sized-wider, forward-size}
 use Rattle.optimum.proofs.Lengths.{forward-length}
 use Rattle.optimum.proofs.Marks.{marks, walk-back}
-use Rattle.optimum.proofs.Planned.{front, behind, plan-within, plan-length, plan-from-marks, plan-leans}
+use Rattle.optimum.proofs.Planned.{front, behind, plan-within, plan-from-marks, plan-leans}
 use Rattle.day.specs.Judging.{earliest, inside}
 use Rattle.day.specs.Limits.{most-slots, toll-limit}
 use Rattle.day.specs.PlainDay.{slot-terms, day-terms}
 use Rattle.day.specs.Slots.{all-proper}
 use Rattle.day.specs.declared.slot.Slot.{Slot}
-use Rattle.day.proofs.Convexity.{all-open, all-convex}
+use Rattle.day.proofs.Convexity.{all-open, all-convex, plan-each}
 use Rattle.day.proofs.Earliest.{none-from-all}
 use Rattle.day.proofs.SlotSizes.{all-sized}
 use Rattle.day.proofs.WithinBounds.{within-inside}
@@ -53,7 +53,7 @@ module _
     planned-inside = none-from-all inside (zipped terms planned) (within-inside terms planned planned-within)
 
     pub planned-length : length planned ≡ length slots
-    planned-length = plan-length terms (all-convex ground steps rising slots good) (all-open ground steps slots good) ∙ many
+    planned-length = plan-each ground steps rising slots good
 
     -- the levels of the plan stand first in the buffer
     pub planned-front : (rest : List ℕ) → take (length slots) (planned ++ rest) ≡ planned

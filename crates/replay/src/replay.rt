@@ -1,9 +1,10 @@
 // Replaying a run of calls on a new day, with the whole promise.
+ghost use mathlib.Core.List.{[], _∷_, _++_};
 ghost use mathlib.Core.Path.{_≡_};
 ghost use denote.Ref.{name};
 ghost use Rattle.std.specs.Of.Vec.{vec-items};
-ghost use Rattle.std.specs.Vec.{made};
-ghost use Rattle.day.specs.Refusals.{told};
+ghost use Rattle.std.specs.Vec.{made, refused};
+ghost use Rattle.std.specs.declared.result.Result.the-variants.{Ok, Err};
 ghost use Rattle.day.specs.View.{plain, memory-of, empty-day};
 ghost use Rattle.replay.specs.PlainRun.{told-by, after, memory-after, memory-after-all, calls-made, terms, answer as plain-answer};
 ghost use Rattle.replay.specs.Promise.{Leaning, Promise};
@@ -21,21 +22,30 @@ use day::slot::SlotClone;
 use std::alloc::AllocError;
 use std::alloc::Global;
 
-fn edit_answer(done: Result<(), Refusal>) -> Answer {
+// What is answered to an edit.
+fn edit_answer(done: Result<(), Refusal>) -> Answer
+    ensures { λ r. ⌜ r ≡ elim done [ Ok x ↦ Answer.Done | Err refusal ↦ Answer.Refused refusal ] ⌝ }
+{
     match done {
         Ok(()) => Answer::Done,
         Err(refusal) => Answer::Refused(refusal),
     }
 }
 
-fn price_answer(priced: Result<i64, Refusal>) -> Answer {
+// What is answered to a price.
+fn price_answer(priced: Result<i64, Refusal>) -> Answer
+    ensures { λ r. ⌜ r ≡ elim priced [ Ok cost ↦ Answer.Cost cost | Err refusal ↦ Answer.Refused refusal ] ⌝ }
+{
     match priced {
         Ok(cost) => Answer::Cost(cost),
         Err(refusal) => Answer::Refused(refusal),
     }
 }
 
-fn check_answer(checked: Result<CheckedPlan<'_>, Refusal>) -> Answer {
+// What is answered to a check.
+fn check_answer(checked: Result<CheckedPlan<'_>, Refusal>) -> Answer
+    ensures { λ r. ⌜ r ≡ elim (checked .entry) [ Ok plan ↦ Answer.Cost (plan .cost) | Err refusal ↦ Answer.Refused refusal ] ⌝ }
+{
     match checked {
         Ok(plan) => Answer::Cost(plan.cost()),
         Err(refusal) => Answer::Refused(refusal),
@@ -47,7 +57,10 @@ fn plan_answer<C: Curve + Copy>(
     heap: Global,
     day: &Day<'_, C>,
     buffers: Buffers,
-) -> Result<Answer, AllocError> {
+) -> Result<Answer, AllocError>
+    ensures answer { λ r. ⌜ made r (λ a. told-by a ≡ plain-answer (C·Curve .ground) (C·Curve .steps) (plain (now (day .entry))) (Call.Plan buffers)) ⌝ }
+    ensures leaning { λ r. ⌜ made r (λ a. Leaning (terms (C·Curve .ground) (C·Curve .steps) (plain (now (day .entry)))) a) ⌝ }
+{
     let count = day.slots().len();
     let mut levels = vec![in heap; 0u16; buffers.levels]?;
     let mut leans = vec![in heap; 0i64; buffers.leans]?;
@@ -67,7 +80,7 @@ fn plan_answer<C: Curve + Copy>(
     }
 }
 
-// Makes one call on a day.
+// Makes one call on a day; where there is no memory for the buffers of a plan, nothing is done.
 fn make<C: Curve + Copy>(
     heap: Global,
     day: &mut Day<'_, C>,
@@ -75,6 +88,7 @@ fn make<C: Curve + Copy>(
 ) -> Result<Answer, AllocError>
     ensures day { λ _. ⌜ plain (now (day .exit)) ≡ after (plain (now (day .entry))) (now (call .entry)) ⌝ }
     ensures memory { λ _. ⌜ memory-of (now (day .exit)) ≡ memory-after (plain (now (day .entry))) (memory-of (now (day .entry))) (now (call .entry)) ⌝ }
+    ensures unmade { λ r. ⌜ refused r (λ _. memory-of (now (day .exit)) ≡ memory-of (now (day .entry))) ⌝ }
     ensures lender { λ _. ⌜ name (now (day .exit) .slots) ≡ name (now (day .entry) .slots) ⌝ }
     ensures answer { λ r. ⌜ made r (λ a. told-by a ≡ plain-answer (C·Curve .ground) (C·Curve .steps) (plain (now (day .entry))) (now (call .entry))) ⌝ }
     ensures leaning { λ r. ⌜ made r (λ a. Leaning (terms (C·Curve .ground) (C·Curve .steps) (plain (now (day .entry)))) a) ⌝ }
@@ -95,7 +109,9 @@ fn note<C: Copy>(
     moments: &mut Vec<Moment<C>>,
     day: &Day<'_, C>,
     answer: Answer,
-) -> Result<(), AllocError> {
+) -> Result<(), AllocError>
+    ensures { λ r. ⌜ made r (λ x. ((m : Moment C) × (vec-items (now (moments .exit)) ≡ vec-items (now (moments .entry)) ++ m ∷ []) × (m .answer ≡ answer) × (vec-items (m .slots) ≡ plain (now (day .entry)) .slots))) ⌝ }
+{
     let slots = Vec::from_slice(heap, day.slots())?;
     moments.push(Moment { answer, slots })?;
     Ok(())
@@ -118,9 +134,9 @@ pub fn replay<C: Curve + Copy>(
             return Err(Unfinished { made });
         };
         made += 1;
-        if note(heap, &mut moments, &day, answer).is_err() {
+        let Ok(()) = note(heap, &mut moments, &day, answer) else {
             return Err(Unfinished { made });
-        }
+        };
     }
     Ok(moments)
 }
