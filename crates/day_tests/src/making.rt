@@ -8,12 +8,12 @@ use day::refusal::Refusal;
 use day::slot::Slot;
 use day::slot::SlotClone;
 
-pub fn square(weight: u32, target: u16) -> Written {
+pub(crate) fn square(weight: u32, target: u16) -> Written {
     Written::Square { weight, target }
 }
 
 // A band with one rate on both sides.
-pub fn band(cold: u16, warm: u16, rate: u32) -> Written {
+pub(crate) fn band(cold: u16, warm: u16, rate: u32) -> Written {
     Written::Band {
         cold,
         warm,
@@ -22,7 +22,7 @@ pub fn band(cold: u16, warm: u16, rate: u32) -> Written {
     }
 }
 
-pub fn slot(curve: Written, low: u16, high: u16, up: u32, down: u32) -> Slot<Written> {
+pub(crate) fn slot(curve: Written, low: u16, high: u16, up: u32, down: u32) -> Slot<Written> {
     Slot {
         curve,
         low,
@@ -33,12 +33,12 @@ pub fn slot(curve: Written, low: u16, high: u16, up: u32, down: u32) -> Slot<Wri
 }
 
 // A slot over all levels, with one toll for both ways.
-pub fn wide(curve: Written, toll: u32) -> Slot<Written> {
+pub(crate) fn wide(curve: Written, toll: u32) -> Slot<Written> {
     slot(curve, 0, TOP, toll, toll)
 }
 
 // Squares of target 10, 20 and 10, with one toll for both ways.
-pub fn squares(toll: u32) -> [Slot<Written>; 3] {
+pub(crate) fn squares(toll: u32) -> [Slot<Written>; 3] {
     [
         wide(square(1, 10), toll),
         wide(square(1, 20), toll),
@@ -47,12 +47,12 @@ pub fn squares(toll: u32) -> [Slot<Written>; 3] {
 }
 
 // A band with both edges 5, then one with both edges 9, with rates and tolls of 3.
-pub fn bands() -> [Slot<Written>; 2] {
+pub(crate) fn bands() -> [Slot<Written>; 2] {
     [wide(band(5, 5, 3), 3), wide(band(9, 9, 3), 3)]
 }
 
 // Adds slots to a day, in their order.
-pub fn fill<C: Copy>(day: &mut Day<'_, C>, slots: &[Slot<C>]) -> Result<(), Refusal> {
+pub(crate) fn fill<C: Copy>(day: &mut Day<'_, C>, slots: &[Slot<C>]) -> Result<(), Refusal> {
     for slot in slots {
         day.add(*slot)?;
     }
@@ -69,7 +69,7 @@ fn alike(a: &Slot<Written>, b: &Slot<Written>) -> bool {
 }
 
 // Whether two runs of slots have the same bounds and tolls, and curves that begin alike.
-pub fn same(a: &[Slot<Written>], b: &[Slot<Written>]) -> bool {
+pub(crate) fn same(a: &[Slot<Written>], b: &[Slot<Written>]) -> bool {
     for (one, other) in a.iter().zip(b.iter()) {
         if !alike(one, other) {
             return false;
@@ -78,7 +78,7 @@ pub fn same(a: &[Slot<Written>], b: &[Slot<Written>]) -> bool {
     a.len() == b.len()
 }
 
-pub fn all_are<T: PartialEq<T>>(items: &[T], value: &T) -> bool {
+pub(crate) fn all_are<T: PartialEq<T>>(items: &[T], value: &T) -> bool {
     for item in items {
         if *item != *value {
             return false;
