@@ -1,11 +1,11 @@
 -- The band curve's steps add up to its formula, and keep the laws.
-use Rattle.std.specs.Prelude.{◌≡◌, ℕ, zero, suc, ◌+◌, ◌-◌, ◌*◌, ◌<◌, ◌≤◌, ◌⊎◌, ℤ, pos, ◌+ℤ◌, neg_ℤ, ◌≤ℤ◌, refl}
-use Rattle.std.proofs.Common.{sym, ◌∙◌, ap, inl, inr, ⊎_elim, mul-suc, mul-zero, arith}
+use Rattle.std.specs.Prelude.{◌≡◌, ℕ, suc, ◌+◌, ◌-◌, ◌*◌, ◌<◌, ◌≤◌, pos, ◌+ℤ◌, neg_ℤ, ◌≤ℤ◌}
+use Rattle.std.proofs.Common.{◌∙◌, ap, mul-suc, mul-zero, arith}
 use Rattle.std.proofs.Math.Nat.{zero-sub}
 use Rattle.std.proofs.lemmas.Int.{ints}
 use Rattle.std.proofs.lemmas.Nat.{mul-le}
 use Rattle.std.proofs.lemmas.Bool.Decides.{nat_tests}
-use Rattle.curve.specs.Limits.{top, last_step, step_limit, ground_limit, rate_limit}
+use Rattle.curve.specs.Limits.{top, ground_limit, rate_limit}
 use Rattle.curve.specs.Meaning.{cost}
 use Rattle.curve.specs.Bands.{band_cost, band_ground, band_step}
 use Rattle.curve.specs.Costs.{cost_is}

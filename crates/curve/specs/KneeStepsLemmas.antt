@@ -1,8 +1,8 @@
 -- The steps of a knees curve: where they end, and that they keep the laws.
-use Rattle.std.specs.Prelude.{◌≡◌, ℕ, zero, suc, ◌<◌, ◌≤◌, Bool, true, false, cond, ◌&&◌, ◌⊎◌, List, [], ◌∷◌, length, take, drop, replicate, ℤ, pos, neg_ℤ, ◌≤ℤ◌, nat_le, refl}
-use Rattle.std.proofs.Common.{sym, ◌∙◌, ap, ap₂, inl, inr, arith, length-take, take-take}
+use Rattle.std.specs.Prelude.{◌≡◌, ℕ, suc, ◌≤◌, true, cond, ◌&&◌, ◌⊎◌, List, [], ◌∷◌, length, take, drop, replicate, ℤ, pos, neg_ℤ, ◌≤ℤ◌, nat_le, refl}
+use Rattle.std.proofs.Common.{◌∙◌, ap₂, inl, inr, arith, length-take, take-take}
 use Rattle.std.proofs.lemmas.List.{take-append-le}
-use Rattle.std.specs.Int.Signed.{le_z, ≤ℤ_refl}
+use Rattle.std.specs.Int.Signed.{≤ℤ_refl}
 use Rattle.std.proofs.lemmas.Int.{ints}
 use Rattle.std.proofs.lemmas.Bool.Decides.{nat_tests}
 use Rattle.curve.specs.Limits.{held_by, rate_limit, step_limit, knee_limit}

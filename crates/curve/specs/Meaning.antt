@@ -9,4 +9,4 @@ climb f (suc n) = climb f n +ℤ f n
 -- the cost at a level: the ground and all the steps below that level
 unfoldable pub cost : ℤ → (ℕ → ℤ) → ℕ → ℤ
 unfolding climb
-cost ground steps level = ground +ℤ climb steps level
+cost base steps level = base +ℤ climb steps level

@@ -1,6 +1,6 @@
 -- Sums of two curves: holding keeps the order and leaves alone what fits, and two steps decide whether all fit.
-use Rattle.std.specs.Prelude.{◌≡◌, ℕ, zero, suc, ◌<◌, ◌≤◌, Bool, true, false, ◌&&◌, ℤ, pos, ◌+ℤ◌, neg_ℤ, ◌≤ℤ◌, Decides, int_le, refl}
-use Rattle.std.proofs.Common.{sym, ◌∙◌, arith, lit<}
+use Rattle.std.specs.Prelude.{◌≡◌, ℕ, suc, ◌<◌, ◌≤◌, Bool, true, false, ◌&&◌, ℤ, pos, ◌+ℤ◌, neg_ℤ, ◌≤ℤ◌, Decides, int_le, refl}
+use Rattle.std.proofs.Common.{arith, lit<}
 use Rattle.std.proofs.lemmas.Int.{ints, clamps}
 use Rattle.std.proofs.lemmas.Bool.Decides.{nat_tests, same_from_decides, Decides-below_and}
 use Rattle.curve.specs.Limits.{top, last_step, step_limit, ground_limit, held_by}
@@ -58,8 +58,8 @@ exact_steps s t e v h = hold_same step_limit (s v +ℤ t v) ((all_fit s t).0 e v
 
 -- the tests as the program makes them: once ground and coldest step fit, the warmest decides
 pub warmest_decides : (g h : ℤ) (s t : ℕ → ℤ) → Rising s → Rising t → held_by ground_limit (g +ℤ h) ≡ true → low_fits s t ≡ true → sums_fit g s h t ≡ high_fits s t
-warmest_decides g h s t rs rt ground low = rw (ground, two_steps_decide s t rs rt, low)
+warmest_decides g h s t rs rt base low = rw (base, two_steps_decide s t rs rt, low)
 
 -- and where the coldest does not fit, not all do
 pub coldest_decides : (g h : ℤ) (s t : ℕ → ℤ) → Rising s → Rising t → held_by ground_limit (g +ℤ h) ≡ true → low_fits s t ≡ false → sums_fit g s h t ≡ false
-coldest_decides g h s t rs rt ground low = rw (ground, two_steps_decide s t rs rt, low)
+coldest_decides g h s t rs rt base low = rw (base, two_steps_decide s t rs rt, low)

@@ -1,5 +1,5 @@
 -- Tests that pass: both of two, and an order of integers.
-use Rattle.std.specs.Prelude.{◌≡◌, ℕ, Bool, true, false, ◌&&◌, T, List, [], ◌∷◌, ℤ, pos, neg_ℤ, ◌≤ℤ◌, Some, None, int_le, refl}
+use Rattle.std.specs.Prelude.{◌≡◌, ℕ, Bool, true, false, ◌&&◌, T, List, [], ◌∷◌, ℤ, pos, neg_ℤ, ◌≤ℤ◌, None, int_le, refl}
 use Rattle.std.proofs.Common.{sym, subst, arith}
 use Rattle.std.specs.List.{AllByRecursion as All}
 use Rattle.curve.specs.Answers.{broken}

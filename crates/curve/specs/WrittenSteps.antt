@@ -4,7 +4,7 @@ use Rattle.std.specs.Prelude.{ℕ, suc, ◌≤ℤ◌}
 use Rattle.std.proofs.lemmas.Int.{ints}
 use Rattle.std.proofs.lemmas.Bool.Decides.{nat_tests}
 use Rattle.curve.specs.Squares.{square_fault}
-use Rattle.curve.specs.Bands.{band_fault, band_step}
+use Rattle.curve.specs.Bands.{band_fault}
 use Rattle.curve.specs.KneeSteps.{knees_fault, knees_rules}
 use Rattle.curve.specs.WrittenCurves.{written_steps}
 use Rattle.curve.specs.declared.written.Written.{Written}

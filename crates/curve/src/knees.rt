@@ -13,7 +13,7 @@ use crate::limits::{GROUND_LIMIT, KNEE_LIMIT, KNEE_STEP_LIMIT, LAST_STEP, held_b
 
 #[derive(Clone, Copy)]
 pub struct Knees {
-    ground: i64,
+    base: i64,
     first: i32,
     count: usize,
     levels: [u16; 6],
@@ -22,7 +22,7 @@ pub struct Knees {
     ghost few: { count ≤ knee_limit },
     ghost rising: { rise_from 0 (take count levels) ≡ true },
     ghost fair: { (held_by rate_limit first && never_fall first (take count steps)) ≡ true },
-    ghost grounded: { held_by ground_limit ground ≡ true },
+    ghost grounded: { held_by ground_limit base ≡ true },
 }
 
 impl Knees {
@@ -34,7 +34,7 @@ impl Knees {
         levels: [u16; 6],
         steps: [i32; 6],
     ) -> Result<Knees, CurveFault>
-        ensures numbers { Answers result (knees_fault ground first count levels steps) (λ k. (k.ground ≡ ground) × (k.first ≡ first) × (k.count ≡ count) × (k.levels ≡ kept count levels 0) × (k.steps ≡ kept count steps (pos 0))) }
+        ensures numbers { Answers result (knees_fault ground first count levels steps) (λ k. (k.base ≡ ground) × (k.first ≡ first) × (k.count ≡ count) × (k.levels ≡ kept count levels 0) × (k.steps ≡ kept count steps (pos 0))) }
         ensures meaning { IfOk result (λ k. (v : ℕ) → knees_step k.first k.count k.levels k.steps v ≡ knees_step first count levels steps v) }
     {
         if count < 1 || count > KNEE_LIMIT {
@@ -50,7 +50,7 @@ impl Knees {
             return Err(CurveFault::Ground);
         }
         Ok(Knees {
-            ground,
+            base: ground,
             first,
             count,
             levels: keep(levels, count, 0),
@@ -60,7 +60,7 @@ impl Knees {
 }
 
 impl Curve for Knees {
-    ghost ground = { λ k. k.ground };
+    ghost ground = { λ k. k.base };
 
     ghost steps = { λ k. knees_step k.first k.count k.levels k.steps };
 
@@ -71,7 +71,7 @@ impl Curve for Knees {
     ghost grounded = { first_of (Prim.search rules, Prim.grind (arith, Self.row.coded.inj)) };
 
     fn ground(&self) -> i64 {
-        self.ground
+        self.base
     }
 
     fn step(&self, level: u16) -> i64 {

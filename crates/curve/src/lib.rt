@@ -1,4 +1,6 @@
 // What a cost curve is: a ground, which is its cost at level 0, and a step at each level, which is what one level more costs.
+#![tactic(auto)]
+
 pub mod band;
 pub mod cost;
 pub mod fault;
@@ -19,7 +21,7 @@ pub trait Curve {
     ghost steps: { Self → ℕ → ℤ };
 
     fn ground(&self) -> i64
-        ensures { result ≡ ground self.now };
+        ensures { result ≡ Self.ground self.now };
 
     // Above the last step the answer is the last step.
     fn step(&self, level: u16) -> i64
@@ -29,5 +31,5 @@ pub trait Curve {
 
     ghost bounded: { (c : Self) (v : ℕ) → v ≤ last_step → (neg_ℤ (pos step_limit) ≤ℤ steps c v) × (steps c v ≤ℤ pos step_limit) };
 
-    ghost grounded: { (c : Self) → (neg_ℤ (pos ground_limit) ≤ℤ ground c) × (ground c ≤ℤ pos ground_limit) };
+    ghost grounded: { (c : Self) → (neg_ℤ (pos ground_limit) ≤ℤ Self.ground c) × (Self.ground c ≤ℤ pos ground_limit) };
 }

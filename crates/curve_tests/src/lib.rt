@@ -1,4 +1,6 @@
 // The rules for curves tried on examples, with numbers worked out by hand.
+#![tactic(auto)]
+
 #[cfg(test)]
 mod tests {
     use curve::Curve;

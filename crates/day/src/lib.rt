@@ -1,4 +1,6 @@
 // A day of slots over lent memory, the plan that costs least in it, and plans that were checked.
+#![tactic(auto)]
+
 pub mod answers;
 pub mod check;
 pub mod day;

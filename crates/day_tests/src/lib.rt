@@ -1,4 +1,6 @@
 // Tests of days through their public calls. Every expected number is worked out by hand from the rules, or found by trying all plans.
+#![tactic(auto)]
+
 #[cfg(test)]
 mod checks;
 #[cfg(test)]

@@ -1,4 +1,6 @@
 // Replays a journal of calls from standard input, and prints a line for each call.
+#![tactic(auto)]
+
 use anyhow::anyhow;
 use curve::written::Written;
 use replay::replay::replay_written;

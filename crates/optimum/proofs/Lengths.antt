@@ -1,5 +1,5 @@
 -- How many levels, thresholds and leans a day of some slots has.
-use Rattle.std.proofs.Common.{◌≡◌, ℕ, suc, ◌*◌, List, [], ◌∷◌, length, ℤ, pos, refl, arith}
+use Rattle.std.proofs.Common.{◌≡◌, ℕ, ◌*◌, List, [], ◌∷◌, length, ℤ, pos, refl, arith}
 use Rattle.optimum.specs.Plans.{Terms, Within}
 use Rattle.optimum.proofs.LeanPasses.{forward_lean, forward_from, forward_with, forward}
 use Rattle.optimum.proofs.Marks.{marks}

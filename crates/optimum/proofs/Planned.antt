@@ -1,5 +1,5 @@
 -- What the sweep, the walk back and the passes over leans give together: the plan of the day, with leans that obey the rules.
-use Rattle.std.proofs.Common.{◌≡◌, ℕ, ◌*◌, ◌≤◌, List, ◌++◌, length, take, drop, ℤ, pos, None, sym, ap, ◌∙◌, subst, arith, take_all}
+use Rattle.std.proofs.Common.{◌≡◌, ℕ, ◌*◌, List, ◌++◌, length, take, drop, pos, None, sym, ap, ◌∙◌, subst, arith, take_all}
 use lib.Seq.{take-append-le, drop-append_seam}
 use Rattle.std.specs.List.{AllByRecursion as All}
 use Rattle.optimum.specs.Coldest.{plan}

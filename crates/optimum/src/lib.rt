@@ -1,4 +1,6 @@
 // The mathematics of plans and leans. Its functions exist to carry theorems in their contracts.
+#![tactic(auto)]
+
 ghost use Rattle.optimum.specs.Theorems.{LeansCertify, LeansDecide, PlanIsColdest};
 
 // A plan and leans that obey the rules: no plan within the bounds costs less.

@@ -1,4 +1,6 @@
 // The planner: of the cheapest plans of a day, the coldest.
+#![tactic(auto)]
+
 mod leans;
 pub mod plan;
 mod sweep;

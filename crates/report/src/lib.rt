@@ -1,4 +1,6 @@
 // What is said of a sheet: its plan, or why it is refused.
+#![tactic(auto)]
+
 mod checked;
 mod lines;
 pub mod report;

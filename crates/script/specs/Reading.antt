@@ -45,9 +45,9 @@ zeros x = x ∷ x ∷ x ∷ x ∷ x ∷ x ∷ []
 -- GROUND FIRST LEVEL STEP ...: one knee at least; a count of knees past what its field holds is the most that it holds
 abbrev pub knees_of : List (List ℕ) → Option Written
 knees_of ws =
-    at_least 4 ws (and_then (signed 63 (word ws 0)) (λ ground. and_then (signed 31 (word ws 1)) (λ first.
+    at_least 4 ws (and_then (signed 63 (word ws 0)) (λ base. and_then (signed 31 (word ws 1)) (λ first.
     and_then (knots_of 0 (zeros 0) (zeros (pos 0)) (lists.drop 2 ws)) (λ knots.
-    Some (Knees ground first (min knots.count 255) knots.levels knots.steps)))))
+    Some (Knees base first (min knots.count 255) knots.levels knots.steps)))))
 
 -- a word, and what follows it
 abbrev pub curve_of : List (List ℕ) → Option Written

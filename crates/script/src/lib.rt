@@ -1,4 +1,6 @@
 // Journals as text: the calls that lines stand for, and the lines that tell answers.
+#![tactic(auto)]
+
 pub mod entry;
 pub mod fault;
 mod hex;

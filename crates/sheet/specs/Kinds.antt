@@ -42,4 +42,4 @@ body_length kind = size (fields kind)
 abbrev pub kind_of_curve : Written → Kind
 kind_of_curve (Square weight target) = square
 kind_of_curve (Band cold warm cold-rate warm-rate) = band
-kind_of_curve (Knees ground first count levels steps) = knees
+kind_of_curve (Knees base first count levels steps) = knees

@@ -1,4 +1,6 @@
 // The sheet: a day of written curves as bytes, and back.
+#![tactic(auto)]
+
 mod body;
 pub mod fault;
 mod kinds;

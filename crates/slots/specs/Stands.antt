@@ -5,4 +5,4 @@ use Rattle.slots.specs.SlotTerms.{slot_terms}
 use Rattle.slots.specs.declared.slot.Slot.{Slot}
 
 abbrev pub slot_stand : {C : Type 0} → (C → ℤ) → (C → ℕ → ℤ) → Slot C → Option ℕ → ℕ → ℤ → ℤ → Stand
-slot_stand ground steps s before level lean next = record { terms = slot_terms ground steps s; before = before; level = level; lean = lean; next = next }
+slot_stand base steps s before level lean next = record { terms = slot_terms base steps s; before = before; level = level; lean = lean; next = next }

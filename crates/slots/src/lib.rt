@@ -1,4 +1,6 @@
 // Slots, what a plan costs in them, and whether leans show that none costs less.
+#![tactic(auto)]
+
 pub mod check;
 pub mod limits;
 pub mod list;

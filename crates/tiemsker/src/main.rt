@@ -1,4 +1,6 @@
 // Reads a sheet from standard input, and prints the plan of its day, or why it is refused.
+#![tactic(auto)]
+
 use anyhow::anyhow;
 use report::report::report_on;
 use std::io::Read;

@@ -14,8 +14,8 @@ loop-below-init g c =
     let none = cost_none (g.C.Curve.ground c.args.curve.now) (g.C.Curve.steps c.args.curve.now) in
     omega (arith, ints)
 
-pub overflow-add-cost : goal.overflow-add-cost
-overflow-add-cost g c =
+pub overflow_add-cost : goal.overflow_add-cost
+overflow_add-cost g c =
     let curve = c.args.curve.now in
     let i = c.loop-below.below in
     let small = cost_bounded (g.C.Curve.ground curve) (g.C.Curve.steps curve) (g.met.C.Curve.grounded curve) (g.met.C.Curve.bounded curve) i (omega arith) in
@@ -30,5 +30,5 @@ loop-below-preserved g c =
     let more = cost_more (g.C.Curve.ground curve) (g.C.Curve.steps curve) i in
     let next = ap (cost (g.C.Curve.ground curve) (g.C.Curve.steps curve)) (add-one i) in
     let asked = rw (at_last i (omega arith)) at c.step-cost.ensures in
-    let fits = overflow-add-cost g c in
+    let fits = overflow_add-cost g c in
     omega (arith, ints, c.loop-below.invariant)

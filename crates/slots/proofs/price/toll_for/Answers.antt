@@ -11,11 +11,11 @@ small c = mul-lt c.args.each c.args.levels (2 ^ 32) (2 ^ 16) (omega arith) (omeg
 product : (c : goal.Start) → to_z w64 c.args.each *ℤ to_z w64 c.args.levels ≡ pos (c.args.each * c.args.levels)
 product c = ap₂ ◌*ℤ◌ (to_z_pos w64 c.args.each (omega arith)) (to_z_pos w64 c.args.levels (omega arith))
 
-pub overflow-mul-result : goal.overflow-mul-result
-overflow-mul-result c = let size = small c in rw (product c) (omega (arith, ints))
+pub overflow_mul-result : goal.overflow_mul-result
+overflow_mul-result c = let size = small c in rw (product c) (omega (arith, ints))
 
 pub returns : goal.returns
 returns c =
     let size = small c in
-    let value = to_z-of_z w64 _ (overflow-mul-result c) ∙ product c in
+    let value = to_z-of_z w64 _ (overflow_mul-result c) ∙ product c in
     record { value = value; size = rw value (omega (arith, ints)) }

@@ -7,5 +7,5 @@ pub returns : goal.returns
 returns c =
     record {
       numbers = (grind (arith, nat_tests), (refl, refl, refl, refl));
-      costs = λ v. band_costs c.args.cold c.args.warm c.args.cold-rate c.args.warm-rate v (omega arith);
+      costs = λ v. band_costs c.args.cold c.args.warm c.args.cold_rate c.args.warm_rate v (omega arith);
     }

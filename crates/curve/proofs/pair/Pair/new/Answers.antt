@@ -6,9 +6,9 @@ use Rattle.curve.proofs.pair.Pair.new.Goals as goal
 
 pub returns : goal.returns
 returns g c =
-    let fit = sym c.if-not-sums-fit.ensures in
+    let fit = sym c.if-not-sums_fit.ensures in
     record {
       curves = (search rules, (refl, refl));
-      exact-ground = hold_same ground_limit (g.A.Curve.ground c.args.first +ℤ g.B.Curve.ground c.args.second) (and_left _ _ fit);
+      exact_ground = hold_same ground_limit (g.A.Curve.ground c.args.first +ℤ g.B.Curve.ground c.args.second) (and_left _ _ fit);
       exact_steps = exact_steps (g.A.Curve.steps c.args.first) (g.B.Curve.steps c.args.second) (and_right _ _ fit);
     }

@@ -11,27 +11,27 @@ returns-then-levels-slots g c = grind (arith, nat_tests, length-map)
 pub returns-in-Some : goal.returns-in-Some
 returns-in-Some g c = grind (arith, nat_tests, length-map, c.in-Some.ensures)
 
-pub first-break-requires : goal.first-break-requires
-first-break-requires g c = record { one_each = (omega arith, omega arith); given = all_free _ }
+pub first_break-requires : goal.first_break-requires
+first_break-requires g c = record { one_each = (omega arith, omega arith); given = all_free _ }
 
-pub returns-in-Some-first-break : goal.returns-in-Some-first-break
-returns-in-Some-first-break g c = grind (arith, nat_tests, length-map, c.in-default.ensures, c.in-Some-first-break.ensures)
+pub returns-in-Some-first_break : goal.returns-in-Some-first_break
+returns-in-Some-first_break g c = grind (arith, nat_tests, length-map, c.in_default.ensures, c.in-Some-first_break.ensures)
 
-pub first-break-requires-2 : goal.first-break-requires-2
-first-break-requires-2 g c = record { one_each = (omega arith, omega arith); given = all_free _ }
+pub first_break-requires-2 : goal.first_break-requires-2
+first_break-requires-2 g c = record { one_each = (omega arith, omega arith); given = all_free _ }
 
-pub returns-in-Some-first-break-2 : goal.returns-in-Some-first-break-2
-returns-in-Some-first-break-2 g c = grind (arith, nat_tests, length-map, c.in-default.ensures, c.in-default-first-break.ensures, c.in-Some-first-break-2.ensures)
+pub returns-in-Some-first_break-2 : goal.returns-in-Some-first_break-2
+returns-in-Some-first_break-2 g c = grind (arith, nat_tests, length-map, c.in_default.ensures, c.in_default-first_break.ensures, c.in-Some-first_break-2.ensures)
 
-pub first-break-requires-3 : goal.first-break-requires-3
-first-break-requires-3 g c =
+pub first_break-requires-3 : goal.first_break-requires-3
+first_break-requires-3 g c =
     record {
       one_each = (omega arith, omega arith);
-      given = stands_small _ _ _ c.args.self.now.list.now c.args.levels.now c.args.leans.now (omega arith) (omega arith) c.args.self.now.proper (all_from_none _ _ (sym c.in-default.ensures)) (all_from_none _ _ (sym c.in-default-first-break.ensures));
+      given = stands_small _ _ _ c.args.self.now.list.now c.args.levels.now c.args.leans.now (omega arith) (omega arith) c.args.self.now.proper (all_from_none _ _ (sym c.in_default.ensures)) (all_from_none _ _ (sym c.in_default-first_break.ensures));
     }
 
-pub returns-in-Some-first-break-3 : goal.returns-in-Some-first-break-3
-returns-in-Some-first-break-3 g c = grind (arith, nat_tests, length-map, c.in-default.ensures, c.in-default-first-break.ensures, c.in-default-first-break-2.ensures, c.in-Some-first-break-3.ensures)
+pub returns-in-Some-first_break-3 : goal.returns-in-Some-first_break-3
+returns-in-Some-first_break-3 g c = grind (arith, nat_tests, length-map, c.in_default.ensures, c.in_default-first_break.ensures, c.in_default-first_break-2.ensures, c.in-Some-first_break-3.ensures)
 
 pub returns : goal.returns
-returns g c = grind (arith, nat_tests, length-map, c.in-default.ensures, c.in-default-first-break.ensures, c.in-default-first-break-2.ensures, c.in-default-first-break-3.ensures)
+returns g c = grind (arith, nat_tests, length-map, c.in_default.ensures, c.in_default-first_break.ensures, c.in_default-first_break-2.ensures, c.in_default-first_break-3.ensures)

@@ -34,4 +34,4 @@ pub returns-in-Some : goal.returns-in-Some
 returns-in-Some g c = rw (outside_refused g.C.Curve.ground g.C.Curve.steps c.args.self.now.list.now c.args.levels.now c.in-Some.slot c.if-levels-self.false c.in-Some.ensures)
 
 pub returns : goal.returns
-returns g c = rw (none_refused g.C.Curve.ground g.C.Curve.steps c.args.self.now.list.now c.args.levels.now c.if-levels-self.false c.in-default.ensures) (ap Ok (to_z-of_z w64 c.total-price.result (record { sfits = c.total-price.type-inv }) ∙ c.total-price.ensures))
+returns g c = rw (none_refused g.C.Curve.ground g.C.Curve.steps c.args.self.now.list.now c.args.levels.now c.if-levels-self.false c.in_default.ensures) (ap Ok (to_z-of_z w64 c.total_price.result (record { sfits = c.total_price.type_inv }) ∙ c.total_price.ensures))
