@@ -1,9 +1,8 @@
 -- What it means that a check accepts a plan with leans: the levels lie within the bounds, the leans obey the rules, and the plan is cheapest.
-use Rattle.std.proofs.Common.{◌≡◌, ℕ, Bool, true, ◌&&◌, eqb, List, [], ◌∷◌, length, ℤ, Some, None, Option, refl, arith}
+use Rattle.std.proofs.Common.{◌≡◌, ℕ, Bool, true, List, [], ◌∷◌, length, ℤ, Some, None, Option, refl, arith}
 use Rattle.std.specs.List.{zip, AllByRecursion as All}
 use Rattle.std.specs.Option.{option_map}
 use Rattle.std.proofs.lemmas.Bool.Decides.{nat_tests}
-use Rattle.curve.specs.Answers.{broken}
 use Rattle.optimum.specs.Plans.{Terms, Within, Cheapest}
 use Rattle.optimum.specs.Leans.{Obeys, stands, bounded, follows_move, at_rest}
 use Rattle.optimum.specs.Theorems.{Convex}
@@ -11,7 +10,7 @@ use Rattle.optimum.proofs.Certificate.{leans_certify, leans_decide}
 use Rattle.slots.specs.Judging.{earliest, inside, check_rules, check_refusal}
 use Rattle.slots.specs.Refusals.{first_refusal}
 use Rattle.slots.specs.declared.refusal.Refusal.{Refusal}
-use Rattle.slots.specs.declared.refusal.Refusal.TheVariants.{Count, Outside, Lean, Move, Rest}
+use Rattle.slots.specs.declared.refusal.Refusal.TheVariants.{Outside, Lean, Move, Rest}
 use Rattle.slots.proofs.Earliest.{none_mapped, none_from_all, all_from_none}
 use Rattle.slots.proofs.WithinBounds.{within_from, within_inside}
 use Rattle.optimum.proofs.Lengths.{within_length}

@@ -1,5 +1,5 @@
 -- Levels inside their bounds, one by one, and a plan within the bounds.
-use Rattle.std.proofs.Common.{◌≡◌, ℕ, true, List, [], ◌∷◌, length, refl, arith}
+use Rattle.std.proofs.Common.{◌≡◌, ℕ, true, List, [], ◌∷◌, length, arith}
 use Rattle.std.proofs.lemmas.Bool.Decides.{nat_tests}
 use Rattle.std.specs.List.{zip, AllByRecursion as All}
 use Rattle.optimum.specs.Plans.{Terms, Within}

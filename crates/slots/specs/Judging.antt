@@ -1,9 +1,9 @@
 -- When a plan is refused by price and check.
-use Rattle.std.specs.Prelude.{ℕ, suc, Bool, true, cond, ◌&&◌, List, [], ◌∷◌, length, ℤ, Some, None, Option, ◌==◌, nat_le}
+use Rattle.std.specs.Prelude.{ℕ, suc, Bool, cond, ◌&&◌, List, [], ◌∷◌, length, ℤ, Some, None, Option, ◌==◌, nat_le}
 use Rattle.std.specs.Option.{option_map}
 use Rattle.std.specs.List.{zip}
 use Rattle.optimum.specs.Plans.{Terms}
-use Rattle.optimum.specs.Leans.{Stand, stands, bounded, follows_move, at_rest}
+use Rattle.optimum.specs.Leans.{stands, bounded, follows_move, at_rest}
 use Rattle.curve.specs.Answers.{broken}
 use Rattle.slots.specs.Refusals.{first_refusal}
 use Rattle.slots.specs.declared.refusal.Refusal.{Refusal}
