@@ -1,5 +1,5 @@
 -- The plan of a day's slots, as the parts of the program find it.
-use Rattle.std.proofs.Common.{◌≡◌, ℕ, suc, ◌*◌, ◌<◌, ◌≤◌, true, List, ◌++◌, length, take, drop, ℤ, pos, neg_ℤ, ◌≤ℤ◌, None, sym, refl, ap, ◌∙◌, arith}
+use Rattle.std.proofs.Common.{◌≡◌, ℕ, suc, ◌*◌, ◌<◌, ◌≤◌, true, List, ◌++◌, length, take, drop, ℤ, pos, neg_ℤ, ◌≤ℤ◌, None, sym, ◌∙◌, arith}
 use Rattle.std.proofs.ByRecursion.{All-weaker}
 use Rattle.std.proofs.lemmas.List.{length-map}
 use Rattle.std.proofs.lemmas.Bool.Decides.{nat_tests}

@@ -1,5 +1,5 @@
 -- Plans within the bounds, slot by slot.
-use Rattle.std.proofs.Common.{◌≡◌, ℕ, zero, suc, ◌+◌, ◌<◌, ◌≤◌, List, [], ◌∷◌, length, get_or, drop, ℤ, refl, ap, ◌∙◌, arith}
+use Rattle.std.proofs.Common.{◌≡◌, ℕ, zero, suc, ◌+◌, ◌<◌, ◌≤◌, List, [], ◌∷◌, length, get_or, drop, ℤ, ◌∙◌, arith}
 use Rattle.std.proofs.lemmas.List.{length-map, drop_more}
 use Rattle.optimum.specs.Plans.{Terms, Within}
 use Rattle.optimum.proofs.Lengths.{within_length}

@@ -5,8 +5,8 @@ use Rattle.slots.specs.SlotTerms.{slot_terms}
 use Rattle.planner.proofs.SlotSizes.{step_read}
 use Rattle.planner.proofs.leans.backward_lean.Goals as goal
 
-pub overflow-sub-next : goal.overflow-sub-next
-overflow-sub-next g c =
+pub overflow_sub-next : goal.overflow_sub-next
+overflow_sub-next g c =
     let read = step_read g.C.Curve.ground g.C.Curve.steps g.met.C.Curve.bounded c.args.slot.now in
     let step = read c.args.level c.step.result c.requires.proper c.if-level-slot.true c.step.ensures in
     omega (arith, ints, c.requires.small)

@@ -5,8 +5,8 @@ use Rattle.slots.specs.SlotTerms.{slot_terms}
 use Rattle.planner.proofs.SlotSizes.{step_read}
 use Rattle.planner.proofs.leans.forward_lean.Goals as goal
 
-pub overflow-add-lean : goal.overflow-add-lean
-overflow-add-lean g c =
+pub overflow_add-lean : goal.overflow_add-lean
+overflow_add-lean g c =
     let read = step_read g.C.Curve.ground g.C.Curve.steps g.met.C.Curve.bounded c.args.before.now in
     let step = read (c.args.level - 1) c.step.result c.requires.proper.0 (omega (arith, c.requires.proper.2)) c.step.ensures in
     omega (arith, ints)

@@ -15,8 +15,8 @@ loop-i-init g c =
     let all = length-map slots (slot_terms g.C.Curve.ground g.C.Curve.steps) in
     made_none (day_terms g.C.Curve.ground g.C.Curve.steps slots) c.args.levels.now (take n leans) (drop n leans) n leans (sym all) refl refl
 
-pub backward-lean-next-requires : goal.backward-lean-next-requires
-backward-lean-next-requires g c =
+pub backward_lean-next-requires : goal.backward_lean-next-requires
+backward_lean-next-requires g c =
     let slots = c.args.slots.now in
     let xs = c.args.levels.now in
     let n = length slots in
@@ -51,7 +51,7 @@ loop-i-preserved g c =
     let some = length-take-le n c.args.leans.now c.requires.room in
     let sized = all_sized g.C.Curve.ground g.C.Curve.steps g.met.C.Curve.bounded slots c.requires.proper in
     let fits : SFits w64 (get_or leans i (pos 0)) = search rules in
-    let made = rw (to_z-of_z w64 (get_or leans i (pos 0)) fits) at c.backward-lean-next.ensures in
+    let made = rw (to_z-of_z w64 (get_or leans i (pos 0)) fits) at c.backward_lean-next.ensures in
     made_more ts xs given past c.requires.small (omega arith) i leans _ (omega arith) (rw next at c.loop-i.invariant) (terms s.result) _ sized (omega arith) (omega arith)
     (terms_read terms slots i s.result (omega arith) s.is)
     (omega (arith, ints))

@@ -28,8 +28,8 @@ bounds-levels-i-then-i-slots g c =
     let each = one_each g.C.Curve.ground g.C.Curve.steps c.args.slots.now c.args.levels.now c.requires.within in
     omega arith
 
-pub forward-lean-lean-requires : goal.forward-lean-lean-requires
-forward-lean-lean-requires g c =
+pub forward_lean-lean-requires : goal.forward_lean-lean-requires
+forward_lean-lean-requires g c =
     let slots = c.args.slots.now in
     let i = c.loop-i.i in
     let s = c.index-slots-i in

@@ -7,6 +7,6 @@ pub returns : goal.returns
 returns g c =
     let slots = c.args.slots.now in
     let rest = drop (length slots) c.args.levels.now in
-    c.walk-back.ensures
+    c.walk_back.ensures
     ∙ ap (λ (ms : List ℕ). walk_back (take (2 * length slots) ms) ++ rest) c.sweep.ensures
     ∙ ap (λ (xs : List ℕ). xs ++ rest) (planned_walk g.C.Curve.ground g.C.Curve.steps g.met.C.Curve.rising g.met.C.Curve.bounded slots c.requires.proper _)

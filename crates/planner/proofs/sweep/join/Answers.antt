@@ -9,8 +9,8 @@ use Rattle.planner.proofs.sweep.join.Goals as goal
 pub loop-level-init : goal.loop-level-init
 loop-level-init g c = filled_none
 
-pub overflow-add-table : goal.overflow-add-table
-overflow-add-table g c =
+pub overflow_add-table : goal.overflow_add-table
+overflow_add-table g c =
     let level = c.loop-level.level in
     let below : level ≤ last_step = grind (arith, nat_tests) in
     let same = filled_next c.loop-level.invariant below in
@@ -25,7 +25,7 @@ loop-level-preserved g c =
     let below : level ≤ last_step = grind (arith, nat_tests) in
     let same = filled_next c.loop-level.invariant below in
     let asked = rw (min-eq_left below) at c.step.ensures in
-    let fits = overflow-add-table g c in
+    let fits = overflow_add-table g c in
     filled_more c.loop-level.invariant (omega arith) (omega arith) (omega (arith, ints))
 
 pub returns : goal.returns

@@ -1,5 +1,5 @@
-use Rattle.std.proofs.Common.{◌≡◌, ℕ, ◌+◌, ◌<◌, List, [], ◌∷◌, length, get_or, drop, sym, ap, ◌∙◌, arith}
-use Rattle.std.proofs.lemmas.List.{drop_more, drop_all}
+use Rattle.std.proofs.Common.{◌≡◌, ◌+◌, [], length, drop, ap, ◌∙◌, arith}
+use Rattle.std.proofs.lemmas.List.{drop_all}
 use Rattle.std.proofs.lemmas.Int.{ints}
 use Rattle.slots.specs.Slots.{proper}
 use Rattle.planner.proofs.ProperSlots.{proper_at, proper_drop, proper_tolls, holds_zero, drop_read}
@@ -9,8 +9,8 @@ use Rattle.planner.proofs.sweep.sweep.Goals as goal
 pub loop-i-init : goal.loop-i-init
 loop-i-init g c = swept_none (holds_zero g.C.Curve.ground g.C.Curve.steps c.args.slots.now c.clear.new.table c.requires.proper c.clear.ensures)
 
-pub sweep-slot-first-requires : goal.sweep-slot-first-requires
-sweep-slot-first-requires g c =
+pub sweep_slot-first-requires : goal.sweep_slot-first-requires
+sweep_slot-first-requires g c =
     record {
       proper = ap proper c.index-slots-i.is ∙ proper_at c.args.slots.now c.loop-i.i _ (omega arith) c.requires.proper;
       long = omega arith;
@@ -30,11 +30,11 @@ loop-i-preserved g c =
     swept_more
     (rw next at c.loop-i.invariant)
     (omega arith)
-    c.tolls-at-up.ensures.up
-    c.tolls-at-up.ensures.down
+    c.tolls_at-up.ensures.up
+    c.tolls_at-up.ensures.down
     (proper_tolls g.C.Curve.ground g.C.Curve.steps behind (proper_drop (c.loop-i.i + 1) slots c.requires.proper))
-    c.sweep-slot-first.ensures.levels
-    (λ message holds. c.hand-over.ensures message (c.sweep-slot-first.ensures.after message holds))
+    c.sweep_slot-first.ensures.levels
+    (λ message holds. c.hand_over.ensures message (c.sweep_slot-first.ensures.after message holds))
 
 pub returns : goal.returns
 returns g c =

@@ -19,8 +19,8 @@ returns g c =
       levels =
           λ message holds.
           let found = threshold_found t before table c.join.ensures order within message holds in (
-            c.first-from-first.ensures ∙ found _ ∙ ap (threshold message t) (omega (arith, ints)),
-            c.first-from-second.ensures ∙ found _ ∙ ap (threshold message t) (omega (arith, ints)),
+            c.first_from-first.ensures ∙ found _ ∙ ap (threshold message t) (omega (arith, ints)),
+            c.first_from-second.ensures ∙ found _ ∙ ap (threshold message t) (omega (arith, ints)),
           );
       after = λ message holds. joined_at t before table c.join.ensures order within message holds;
     }
