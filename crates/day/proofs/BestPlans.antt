@@ -1,5 +1,5 @@
 -- What a check accepts is cheapest, and what is planned is the coldest of the cheapest plans.
-use Rattle.std.proofs.Common.{◌≡◌, ℕ, suc, ◌<◌, true, List, length, take, drop, ℤ, ◌≤ℤ◌, IfOk, Some, None, Ok, Err, Option, Result, refl, arith}
+use Rattle.std.proofs.Common.{◌≡◌, ℕ, suc, ◌<◌, true, List, length, take, drop, ℤ, ◌≤ℤ◌, IfOk, Some, None, Ok, Option, Result, refl, arith}
 use Rattle.std.proofs.lemmas.List.{take_at}
 use Rattle.curve.specs.Limits.{last_step}
 use Rattle.optimum.specs.Coldest.{Coldest, plan}

@@ -1,6 +1,5 @@
 -- The first slots of a memory: those of a day, after each edit.
-use Rattle.std.proofs.Common.{◌≡◌, ℕ, zero, suc, ◌+◌, ◌-◌, ◌<◌, ◌≤◌, Bool, true, ◌&&◌, List, [], ◌∷◌, ◌++◌, length, take, drop, set, sym, refl, ap, ◌∙◌, le_of_suc-le-suc, arith, take-take}
-use Rattle.std.proofs.lemmas.Bool.Decides.{nat_tests}
+use Rattle.std.proofs.Common.{◌≡◌, ℕ, zero, suc, ◌≤◌, true, ◌&&◌, List, [], ◌∷◌, ◌++◌, take, set, refl, ap, take-take}
 use Rattle.curve.specs.Tests.{and_left, and_right, both}
 use Rattle.slots.specs.Slots.{bounds_hold, tolls_hold}
 use Rattle.slots.specs.Slots.{all_proper}

@@ -1,4 +1,4 @@
-use Rattle.std.proofs.Common.{◌≡◌, ◌-◌, List, length, take, None, Option, sym, refl, ap, ◌∙◌, arith}
+use Rattle.std.proofs.Common.{◌-◌, List, length, take, None, Option, sym, refl, ap, ◌∙◌, arith}
 use Rattle.day.specs.Edits.{edited}
 use Rattle.slots.specs.Refusals.{told}
 use Rattle.day.specs.View.{plain}
@@ -8,10 +8,10 @@ use Rattle.day.proofs.Fronts.{proper_fewer}
 use Rattle.day.proofs.PlainEdits.{drop_accepted, drop_made}
 use Rattle.day.proofs.day.Day.drop.Goals as goal
 
-pub invariant-of-self : goal.invariant-of-self
-invariant-of-self g c =
+pub invariant_of-self : goal.invariant_of-self
+invariant_of-self g c =
     let d = c.args.self.now in
-    (omega arith, (omega arith, (proper_fewer (d.count - 1) d.count d.slots.now (omega arith) d.proper, tt)))
+    record { stored = omega arith; few = omega arith; proper = proper_fewer (d.count - 1) d.count d.slots.now (omega arith) d.proper }
 
 pub returns : goal.returns
 returns g c =

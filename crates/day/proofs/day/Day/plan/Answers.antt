@@ -6,7 +6,7 @@ use Rattle.day.proofs.day.Day.plan.Goals as goal
 pub returns : goal.returns
 returns g c =
     let day = c.args.self.now in
-    let made = rw c.listed.ensures at c.plan-slots.ensures in
+    let made = rw c.listed.ensures at c.plan_slots.ensures in
     let many = sym (length-take-le day.count day.slots.now day.stored) in
     record {
       answer = search rules;
