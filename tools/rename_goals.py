@@ -11,7 +11,7 @@ import sys
 TOKEN = re.compile(r"(?<![\w'-])[A-Za-z][\w'-]*(?![\w'])")
 
 
-FIXED = [(".type-inv", ".type_inv"), (".well-formed", ".well_formed"), (".yielded-by", ".yielded_by")]
+FIXED = [(".type-inv", ".type_inv"), (".well-formed", ".well_formed"), (".yielded-by", ".yielded_by"), (".slots.name", ".slots.ghost_name")]
 
 
 def moved(text, turned):
@@ -33,7 +33,7 @@ def strings(x):
 
 
 def flat(name):
-    return re.sub(r"[-_]", "", name).lower()
+    return re.sub(r"[-_]", "-", name).lower()
 
 
 def main():
@@ -59,6 +59,7 @@ def main():
             if not os.path.exists(path):
                 continue
             text = open(path, encoding="utf-8").read()
+            imported = {w for m in re.finditer(r"use Rattle[\w.+'-]*\.(?:Goals|Given)\.\{([^}]*)\}", text) for w in TOKEN.findall(m[1])}
 
             def one(t):
                 name = t[0]
@@ -66,7 +67,7 @@ def main():
                     return name
                 before = text[: t.start()]
                 line = before[before.rfind("\n") + 1 :]
-                cited = before.endswith(".") or re.match(r"(abbrev )?(pub )?$", line) or (line.startswith("use ") and (".Goals" in line or ".Given" in line)) or "Goals.{" in line or re.search(r"[\[|(] *$", line)
+                cited = name in imported or before.endswith(".") or re.match(r"(abbrev )?(pub )?$", line) or (line.startswith("use ") and (".Goals" in line or ".Given" in line)) or "Goals.{" in line or re.search(r"[\[|(] *$", line)
                 if not cited:
                     return name
                 found = table.get(flat(name) + name[0].isupper() * "^", set())

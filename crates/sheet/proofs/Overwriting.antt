@@ -1,5 +1,5 @@
 -- Bytes that are written over others, part by part.
-use Rattle.std.proofs.Common.{◌≡◌, ℕ, zero, suc, ◌+◌, ◌-◌, ◌/◌, ◌%◌, ◌<◌, ◌≤◌, List, [], ◌∷◌, ◌++◌, length, get_or, take, drop, set, sym, refl, ap, ◌∙◌, ap₂, append_assoc, add-one, arith, length-append}
+use Rattle.std.proofs.Common.{◌≡◌, ℕ, zero, suc, ◌+◌, ◌/◌, ◌%◌, ◌<◌, ◌≤◌, List, [], ◌∷◌, ◌++◌, length, get_or, take, drop, set, sym, refl, ap, ◌∙◌, ap₂, append_assoc, add-one, arith, length-append}
 use Rattle.std.proofs.lemmas.List.{length_push, take-append-drop, take_at, drop_at, drop-drop, take-set, take-take, drop-set, take_more, append-nil, length-take-le}
 use Rattle.std.specs.List.{flat_map}
 use Rattle.sheet.specs.Buffers.{over}

@@ -9,7 +9,7 @@ use Rattle.curve.specs.Limits.{knee_limit}
 use Rattle.curve.specs.declared.written.Written.{Written}
 use Rattle.day.specs.PlainDay.{PlainDay}
 use Rattle.slots.specs.declared.slot.Slot.{Slot}
-use Rattle.sheet.specs.Fields.{Values, number_at, values, packed, size}
+use Rattle.sheet.specs.Fields.{Values, number_at, values, packed}
 use Rattle.sheet.specs.Kinds.{Kind, square, band, knees, kind_byte, kind_of, fields, knee_fields, body_length}
 use Rattle.sheet.specs.Records.{decode_body, decode_record, encode_slot}
 use Rattle.sheet.specs.SlotFaults.{slot_fault, unless_fault, all_zero}

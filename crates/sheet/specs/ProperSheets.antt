@@ -1,6 +1,6 @@
 -- The slots of a sheet keep the rules for bounds and tolls.
-use Rattle.std.specs.Prelude.{◌≡◌, ℕ, zero, suc, ◌+◌, Bool, true, ◌&&◌, List, [], ◌∷◌, drop, Ok, Err, Result, refl}
-use Rattle.std.proofs.Common.{sym, arith}
+use Rattle.std.specs.Prelude.{◌≡◌, ℕ, zero, suc, ◌+◌, true, List, [], ◌∷◌, drop, Ok, Err, Result, refl}
+use Rattle.std.proofs.Common.{arith}
 use Rattle.curve.specs.declared.written.Written.{Written}
 use Rattle.slots.specs.Slots.{all_proper}
 use Rattle.slots.specs.declared.slot.Slot.{Slot}

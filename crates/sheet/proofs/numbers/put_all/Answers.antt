@@ -7,8 +7,8 @@ use Rattle.sheet.proofs.numbers.put_all.Goals as goal
 pub loop-entry-init : goal.loop-entry-init
 loop-entry-init c = (omega arith, over_none c.args.place c.args.out.now)
 
-pub put-unsigned-requires : goal.put-unsigned-requires
-put-unsigned-requires c =
+pub put_unsigned-requires : goal.put_unsigned-requires
+put_unsigned-requires c =
     let entries = c.args.entries.now in
     let i = c.loop-entry.entry-index in
     let entry = get_or entries i (0, 0) in
@@ -17,8 +17,8 @@ put-unsigned-requires c =
     let size = length_big_endian entry.0 entry.1 in
     omega (arith, c.loop-entry.invariant.0)
 
-pub overflow-add-next : goal.overflow-add-next
-overflow-add-next c =
+pub overflow_add-next : goal.overflow_add-next
+overflow_add-next c =
     let entries = c.args.entries.now in
     let i = c.loop-entry.entry-index in
     let entry = get_or entries i (0, 0) in
@@ -41,7 +41,7 @@ loop-entry-preserved c =
     let place = c.args.place in
     let out = c.args.out.now in (
       omega (arith, c.loop-entry.invariant.0),
-      c.put-unsigned.ensures
+      c.put_unsigned.ensures
           ∙ ap₂ (λ (at : ℕ) (was : List ℕ). over (entry_bytes entry) at was) c.loop-entry.invariant.0 c.loop-entry.invariant.1
           ∙ over_over bytes (entry_bytes entry) place out (omega arith)
           ∙ ap (λ (bytes : List ℕ). over bytes place out) (sym next),

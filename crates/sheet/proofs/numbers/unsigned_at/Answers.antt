@@ -17,15 +17,15 @@ narrow n i below few = let most : 256 ^ i ≤ 256 ^ 7 = pow-le-pow_right {n = 25
 pub loop-byte-init : goal.loop-byte-init
 loop-byte-init c = (refl, omega arith)
 
-pub overflow-mul-number : goal.overflow-mul-number
-overflow-mul-number c =
+pub overflow_mul-number : goal.overflow_mul-number
+overflow_mul-number c =
     let within = simp (length-take, length-drop) at c.loop-byte-test.true in
     let few : c.loop-byte.byte-index < 8 = omega arith in
     let below = narrow c.loop-byte.number c.loop-byte.byte-index c.loop-byte.invariant.1 few in
     search rules
 
-pub overflow-add-number : goal.overflow-add-number
-overflow-add-number c =
+pub overflow_add-number : goal.overflow_add-number
+overflow_add-number c =
     let within = simp (length-take, length-drop) at c.loop-byte-test.true in
     let few : c.loop-byte.byte-index < 8 = omega arith in
     let below = narrow c.loop-byte.number c.loop-byte.byte-index c.loop-byte.invariant.1 few in

@@ -1,4 +1,4 @@
-use Rattle.std.proofs.Common.{◌≡◌, ℕ, ◌-◌, ◌<◌, [], ◌∷◌, ◌++◌, length, set, Option, sym, refl, ap, ◌∙◌, arith, length-drop, length-take, rules}
+use Rattle.std.proofs.Common.{◌≡◌, ℕ, ◌<◌, [], ◌∷◌, ◌++◌, length, set, Option, sym, refl, ap, ◌∙◌, arith, length-drop, length-take, rules}
 use Rattle.std.proofs.lemmas.List.{length-take-le, nil_from_length}
 use Rattle.std.specs.List.{between}
 use Rattle.day.specs.Edits.{edited}
@@ -8,33 +8,33 @@ use Rattle.slots.specs.declared.refusal.Refusal.{Refusal}
 use Rattle.sheet.specs.Sheets.{replaced, laid_over}
 use Rattle.sheet.proofs.Filling.{filled_none, filled_front, filled_as, filled_all, never_refused, Given, given_next}
 use Rattle.sheet.proofs.read.fill.Goals as goal
-use Rattle.sheet.proofs.read.fill.Goals.{In-ok-slot}
+use Rattle.sheet.proofs.read.fill.Goals.{In_ok-slot}
 
 pub loop-left-init : goal.loop-left-init
 loop-left-init c = (filled_none c.args.sheet.now (memory_of c.args.day.now) (plain c.args.day.now) c.requires.empty refl c.requires.tested, refl)
 
-pub returns-in-err-slot : goal.returns-in-err-slot
-returns-in-err-slot c =
+pub returns-in_err-slot : goal.returns-in_err-slot
+returns-in_err-slot c =
     let some : 0 < length c.loop-left.left.now = search rules in
-    absurd (never_refused _ _ _ _ _ _ (filled_front _ _ _ _ _ some c.loop-left.invariant.0) _ c.in-err-slot.ensures)
+    absurd (never_refused _ _ _ _ _ _ (filled_front _ _ _ _ _ some c.loop-left.invariant.0) _ c.in_err-slot.ensures)
 
 -- the next slot is let in
 entering :
-    (c : In-ok-slot) →
-    Given c.args.sheet.now (memory_of c.args.day.now) (plain c.loop-left.day) (memory_of c.loop-left.day) (between 1 (length c.loop-left.left.now) c.loop-left.left.now) c.in-ok-slot.slot c.in-ok-slot.length
+    (c : In_ok-slot) →
+    Given c.args.sheet.now (memory_of c.args.day.now) (plain c.loop-left.day) (memory_of c.loop-left.day) (between 1 (length c.loop-left.left.now) c.loop-left.left.now) c.in_ok-slot.slot c.in_ok-slot.length
 entering c =
     let some : 0 < length c.loop-left.left.now = search rules in
-    given_next _ _ _ _ _ _ (filled_front _ _ _ _ _ some c.loop-left.invariant.0) _ _ c.in-ok-slot.ensures
+    given_next _ _ _ _ _ _ (filled_front _ _ _ _ _ some c.loop-left.invariant.0) _ _ c.in_ok-slot.ensures
 
-pub returns-in-err-add : goal.returns-in-err-add
-returns-in-err-add c =
-    let given = entering (goal.at.returns-in-err-add c).In-ok-slot in
-    let refused = c.in-err-add.ensures.answer ∙ ap (λ (refusal : Option Refusal). told refusal tt) given.accepted in
+pub returns-in_err-add : goal.returns-in_err-add
+returns-in_err-add c =
+    let given = entering (goal.at.returns-in_err-add c).In_ok-slot in
+    let refused = c.in_err-add.ensures.answer ∙ ap (λ (refusal : Option Refusal). told refusal tt) given.accepted in
     let z : ◌≡◌ {A = ℕ} 0 1 = cc refused in
     absurd (omega arith)
 
 pub past-left-requires : goal.past-left-requires
-past-left-requires c = (entering (goal.at.past-left-requires c).In-ok-slot).within
+past-left-requires c = (entering (goal.at.past-left-requires c).In_ok-slot).within
 
 pub loop-left-smaller : goal.loop-left-smaller
 loop-left-smaller c =
@@ -45,9 +45,9 @@ loop-left-smaller c =
 
 pub loop-left-preserved : goal.loop-left-preserved
 loop-left-preserved c =
-    let given = entering (goal.at.loop-left-preserved c).In-ok-slot in
+    let given = entering (goal.at.loop-left-preserved c).In_ok-slot in
     let day = c.loop-left.day in
-    let s = c.in-ok-slot.slot in
+    let s = c.in_ok-slot.slot in
     let count = length-take-le day.count day.slots.now day.stored in
     let made = c.add.ensures.day ∙ ap (λ (refusal : Option Refusal). edited (plain day) refusal ((plain day).slots ++ s ∷ [])) given.accepted in
     let held = c.add.ensures.memory ∙ ap (λ (refusal : Option Refusal). wrote refusal (memory_of day) day.count s) given.accepted ∙ ap (λ (n : ℕ). set (memory_of day) n s) (sym count) in

@@ -8,24 +8,24 @@ use Rattle.sheet.proofs.Decoding.{same_knees}
 use Rattle.sheet.proofs.write.put_curve.Goals as goal
 use Rattle.sheet.proofs.write.put_curve.Goals.{In-Knees}
 
-pub put-all-requires : goal.put-all-requires
-put-all-requires c = rw c.in-Square.is at c.requires
+pub put_all-requires : goal.put_all-requires
+put_all-requires c = rw c.in-Square.is at c.requires
 
-pub put-all-requires-in-Band : goal.put-all-requires-in-Band
-put-all-requires-in-Band c = rw c.in-Band.is at c.requires
+pub put_all-requires-in-Band : goal.put_all-requires-in-Band
+put_all-requires-in-Band c = rw c.in-Band.is at c.requires
 
 pub returns-in-Square : goal.returns-in-Square
 returns-in-Square c =
     record {
-      bytes = c.put-all.ensures.bytes ∙ ap (λ (curve : Written). over (curve_bytes curve) c.args.place c.args.out.now) (sym c.in-Square.is);
-      place = c.put-all.ensures.place ∙ ap (λ (curve : Written). c.args.place + length (curve_bytes curve)) (sym c.in-Square.is);
+      bytes = c.put_all.ensures.bytes ∙ ap (λ (curve : Written). over (curve_bytes curve) c.args.place c.args.out.now) (sym c.in-Square.is);
+      place = c.put_all.ensures.place ∙ ap (λ (curve : Written). c.args.place + length (curve_bytes curve)) (sym c.in-Square.is);
     }
 
 pub returns-in-Band : goal.returns-in-Band
 returns-in-Band c =
     record {
-      bytes = c.put-all-in-Band.ensures.bytes ∙ ap (λ (curve : Written). over (curve_bytes curve) c.args.place c.args.out.now) (sym c.in-Band.is);
-      place = c.put-all-in-Band.ensures.place ∙ ap (λ (curve : Written). c.args.place + length (curve_bytes curve)) (sym c.in-Band.is);
+      bytes = c.put_all-in-Band.ensures.bytes ∙ ap (λ (curve : Written). over (curve_bytes curve) c.args.place c.args.out.now) (sym c.in-Band.is);
+      place = c.put_all-in-Band.ensures.place ∙ ap (λ (curve : Written). c.args.place + length (curve_bytes curve)) (sym c.in-Band.is);
     }
 
 -- the numbers are passed as they stand
@@ -35,15 +35,15 @@ passed c =
     let first : SFits w32 c.in-Knees.first = search rules in
     same_knees (to_z-of_z w64 _ ground) (to_z-of_z w32 _ first) refl refl refl ∙ sym c.in-Knees.is
 
-pub put-knees-requires : goal.put-knees-requires
-put-knees-requires c =
+pub put_knees-requires : goal.put_knees-requires
+put_knees-requires c =
     let P : Written → Type 0 = λ curve. c.args.place + length (curve_bytes curve) ≤ length c.args.out.now in
-    subst P (sym (passed (goal.at.put-knees-requires c).In-Knees)) c.requires
+    subst P (sym (passed (goal.at.put_knees-requires c).In-Knees)) c.requires
 
 pub returns-in-Knees : goal.returns-in-Knees
 returns-in-Knees c =
     let curve = passed (goal.at.returns-in-Knees c).In-Knees in
     record {
-      bytes = c.put-knees.ensures.bytes ∙ ap (λ (curve : Written). over (curve_bytes curve) c.args.place c.args.out.now) curve;
-      place = c.put-knees.ensures.place ∙ ap (λ (curve : Written). c.args.place + length (curve_bytes curve)) curve;
+      bytes = c.put_knees.ensures.bytes ∙ ap (λ (curve : Written). over (curve_bytes curve) c.args.place c.args.out.now) curve;
+      place = c.put_knees.ensures.place ∙ ap (λ (curve : Written). c.args.place + length (curve_bytes curve)) curve;
     }

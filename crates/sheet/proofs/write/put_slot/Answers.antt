@@ -5,31 +5,31 @@ use Rattle.sheet.specs.SlotFields.{curve_bytes}
 use Rattle.sheet.proofs.Overwriting.{over_over}
 use Rattle.sheet.proofs.RecordBytes.{head_entries, slot_bytes}
 use Rattle.sheet.proofs.write.put_slot.Goals as goal
-use Rattle.sheet.proofs.write.put_slot.Goals.{After-kind-byte}
+use Rattle.sheet.proofs.write.put_slot.Goals.{After-kind_byte}
 
-sizes : (c : After-kind-byte) → length (all_bytes (head_entries c.kind-byte.result c.args.slot.now)) + length (curve_bytes c.args.slot.now.curve) ≡ length (encode_slot c.args.slot.now)
+sizes : (c : After-kind_byte) → length (all_bytes (head_entries c.kind_byte.result c.args.slot.now)) + length (curve_bytes c.args.slot.now.curve) ≡ length (encode_slot c.args.slot.now)
 sizes c =
     let s = c.args.slot.now in
-    sym (length-append (all_bytes (head_entries c.kind-byte.result s)) (curve_bytes s.curve)) ∙ ap length (slot_bytes s c.kind-byte.result c.kind-byte.ensures)
+    sym (length-append (all_bytes (head_entries c.kind_byte.result s)) (curve_bytes s.curve)) ∙ ap length (slot_bytes s c.kind_byte.result c.kind_byte.ensures)
 
-pub put-all-curve-place-requires : goal.put-all-curve-place-requires
-put-all-curve-place-requires c = omega (arith, sizes (goal.at.put-all-curve-place-requires c).After-kind-byte, c.requires)
+pub put_all-curve_place-requires : goal.put_all-curve_place-requires
+put_all-curve_place-requires c = omega (arith, sizes (goal.at.put_all-curve_place-requires c).After-kind_byte, c.requires)
 
-pub put-curve-requires : goal.put-curve-requires
-put-curve-requires c = omega (arith, sizes (goal.at.put-curve-requires c).After-kind-byte, c.requires, c.put-all-curve-place.ensures.place)
+pub put_curve-requires : goal.put_curve-requires
+put_curve-requires c = omega (arith, sizes (goal.at.put_curve-requires c).After-kind_byte, c.requires, c.put_all-curve_place.ensures.place)
 
 pub returns : goal.returns
 returns c =
     let s = c.args.slot.now in
     let out = c.args.out.now in
     let place = c.args.place in
-    let head = all_bytes (head_entries c.kind-byte.result s) in
-    let first = c.put-all-curve-place.ensures in
+    let head = all_bytes (head_entries c.kind_byte.result s) in
+    let first = c.put_all-curve_place.ensures in
     record {
       bytes =
-          c.put-curve.ensures.bytes
+          c.put_curve.ensures.bytes
           ∙ ap₂ (λ (at : ℕ) (was : List ℕ). over (curve_bytes s.curve) at was) first.place first.bytes
           ∙ over_over head (curve_bytes s.curve) place out (omega arith)
-          ∙ ap (λ (bytes : List ℕ). over bytes place out) (slot_bytes s c.kind-byte.result c.kind-byte.ensures);
-      place = c.put-curve.ensures.place ∙ omega (arith, sizes (goal.at.returns c).After-kind-byte, first.place);
+          ∙ ap (λ (bytes : List ℕ). over bytes place out) (slot_bytes s c.kind_byte.result c.kind_byte.ensures);
+      place = c.put_curve.ensures.place ∙ omega (arith, sizes (goal.at.returns c).After-kind_byte, first.place);
     }

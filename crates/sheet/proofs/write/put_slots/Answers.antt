@@ -11,9 +11,9 @@ pub loop-slot-init : goal.loop-slot-init
 unfolding encode
 loop-slot-init c = (refl, over_none 0 c.args.out.now)
 
-pub put-slot-place-requires : goal.put-slot-place-requires
+pub put_slot-place-requires : goal.put_slot-place-requires
 unfolding encode
-put-slot-place-requires c =
+put_slot-place-requires c =
     let slots = c.args.slots.now in
     let i = c.loop-slot.slot-index in
     let s = get_or slots i blank in
@@ -33,7 +33,7 @@ loop-slot-preserved c =
     let next = joined_next encode_slot slots i s c.loop-slot-test.true is in
     let sizes = simp length-append at (ap length next) in
     let place : c.loop-slot.place ≡ 0 + length bytes = omega (arith, c.loop-slot.invariant.0) in
-    let put = c.put-slot-place.ensures in (
+    let put = c.put_slot-place.ensures in (
       omega (arith, c.loop-slot.invariant.0, put.place),
       put.bytes
           ∙ ap₂ (λ (at : ℕ) (was : List ℕ). over (encode_slot s) at was) place c.loop-slot.invariant.1

@@ -21,7 +21,7 @@ loop-slot-preserved c =
     let next = simp length-append at (ap length (joined_next encode_slot slots i s c.loop-slot-test.true is)) in
     let size = length_encode_slot s in
     let small = body_small (kind_of_curve s.curve) in
-    (omega (arith, c.loop-slot.invariant.0, c.body-length.ensures), omega (arith, c.loop-slot.invariant.1, c.body-length.ensures))
+    (omega (arith, c.loop-slot.invariant.0, c.body_length.ensures), omega (arith, c.loop-slot.invariant.1, c.body_length.ensures))
 
 pub returns : goal.returns
 returns c = let whole = take_all c.loop-slot.slot-index c.args.slots.now (omega arith) in rw whole at c.loop-slot.invariant.0

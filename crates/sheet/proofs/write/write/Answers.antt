@@ -8,6 +8,6 @@ use Rattle.sheet.proofs.write.write.Goals as goal
 pub returns : goal.returns
 returns c =
     let slots = c.slots-slots.result.now in
-    let needed = c.sheet-length-needed.result in
-    let sheet = ap (take needed) c.put-slots.ensures ∙ take_at (encode slots) _ needed (sym c.sheet-length-needed.ensures) ∙ ap encode c.slots-slots.ensures in
-    record { answer = search rules; buffer = search rules; back = reads_back (plain c.args.day.now).slots (take needed c.put-slots.new.out) c.args.day.now.proper sheet }
+    let needed = c.sheet_length-needed.result in
+    let sheet = ap (take needed) c.put_slots.ensures ∙ take_at (encode slots) _ needed (sym c.sheet_length-needed.ensures) ∙ ap encode c.slots-slots.ensures in
+    record { answer = search rules; buffer = search rules; back = reads_back (plain c.args.day.now).slots (take needed c.put_slots.new.out) c.args.day.now.proper sheet }
