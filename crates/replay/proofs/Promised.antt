@@ -14,7 +14,7 @@ use Rattle.day.specs.PlainDay.{PlainDay}
 use Rattle.planner.specs.Planning.{plan_refusal}
 use Rattle.slots.specs.Slots.{all_proper}
 use Rattle.day.specs.View.{empty_day}
-use Rattle.replay.specs.PlainRun.{Told, done, cost, planned, unless_refused, read_told, told_by, after, terms, answer}
+use Rattle.replay.specs.PlainRun.{done, cost, planned, unless_refused, read_told, told_by, after, terms, answer}
 use Rattle.replay.specs.Promise.{Accepted, Decided, DecidedUntilEdit, Best, Leaning, Answered, Follows, Sound, AlwaysSound, Promise}
 use Rattle.replay.specs.declared.call.Answer.{Answer}
 use Rattle.replay.specs.declared.call.Answer.TheVariants.{Done, Cost, Planned, Refused, Unread}

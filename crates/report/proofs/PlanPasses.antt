@@ -1,10 +1,10 @@
 -- The plan of a day passes the check with the leans beside it.
-use Rattle.std.proofs.Common.{◌≡◌, ℕ, suc, ◌<◌, true, List, length, take, drop, ℤ, ◌≤ℤ◌, Some, None, Ok, Err, Option, Result, sym, refl, ap, ◌∙◌, subst, arith}
+use Rattle.std.proofs.Common.{◌≡◌, ℕ, suc, ◌<◌, true, List, length, take, drop, ℤ, ◌≤ℤ◌, Some, None, Ok, Err, Option, Result, refl, subst, arith}
 use Rattle.std.proofs.lemmas.List.{take_at, length-map}
 use Rattle.curve.specs.Answers.{Answers}
 use Rattle.curve.specs.Limits.{last_step}
 use Rattle.optimum.specs.Coldest.{plan}
-use Rattle.optimum.specs.Plans.{Terms, price}
+use Rattle.optimum.specs.Plans.{Terms}
 use Rattle.optimum.proofs.Planned.{plan_within}
 use Rattle.planner.specs.Planning.{planned, Leaned}
 use Rattle.planner.proofs.Convexity.{all_convex, all_open, plan_each}

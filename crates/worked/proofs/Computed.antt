@@ -1,6 +1,5 @@
 -- The answers, with the plan found by the sweep in place of a search, so that they can be computed.
-use Rattle.std.proofs.Common.{◌≡◌, ℕ, suc, ◌<◌, Bool, true, ◌&&◌, List, [], ◌∷◌, map, ℤ, pos, ◌≤ℤ◌, Some, None, sym, refl, ap, ◌∙◌, ap₂}
-use Rattle.curve.specs.Limits.{last_step}
+use Rattle.std.proofs.Common.{◌≡◌, ℕ, Bool, true, ◌&&◌, List, [], ◌∷◌, map, pos, None, refl, ap, ap₂}
 use Rattle.curve.specs.KneeSteps.{knees_step}
 use Rattle.curve.specs.Meaning.{climb, cost}
 use Rattle.curve.specs.Pairs.{all_below}

@@ -1,10 +1,10 @@
 -- The worked examples: what is asked beside what is answered.
-use Rattle.std.specs.Prelude.{◌≡◌, ℕ, List, [], ◌∷◌, map, ℤ, pos, neg_ℤ, Some, None}
+use Rattle.std.specs.Prelude.{◌≡◌, ℕ, List, [], ◌∷◌, map, pos, neg_ℤ, Some, None}
 use Rattle.curve.specs.Limits.{top}
 use Rattle.curve.specs.declared.written.Written.{Written}
 use Rattle.curve.specs.declared.written.Written.TheVariants.{Square, Band, Knees}
 use Rattle.slots.specs.declared.slot.Slot.{Slot}
-use Rattle.worked.specs.Asking.{Asked, the_plan, the_check, the_costs, the_pair, Said, planned, accepted, costing, made, refused, answer}
+use Rattle.worked.specs.Asking.{Asked, the_plan, the_check, the_costs, the_pair, Said, planned, accepted, costing, refused, answer}
 
 -- a slot with a curve, open at all levels, and the same toll up and down
 abbrev open_slot : Written → ℕ → Slot Written

@@ -1,7 +1,7 @@
-use Rattle.std.proofs.Common.{◌≡◌, ℕ, ◌-◌, List, length, take, ℤ, None, sym, refl, ap, ◌∙◌}
+use Rattle.std.proofs.Common.{◌≡◌, ℕ, ◌-◌, List, length, take, ℤ, None, ap, ◌∙◌}
 use native.Mathlib.Nat.{sub-zero}
 use Rattle.optimum.specs.Coldest.{plan}
-use Rattle.optimum.specs.Plans.{Terms, price}
+use Rattle.optimum.specs.Plans.{price}
 use Rattle.planner.specs.Planning.{short_for}
 use Rattle.slots.specs.Judging.{check_refusal}
 use Rattle.slots.specs.SlotTerms.{day_terms}
@@ -13,7 +13,7 @@ returns g c =
     let day = c.args.day.now in
     let slots = take day.count day.slots.now in
     let ts = day_terms g.C.Curve.ground g.C.Curve.steps slots in
-    let made = c.in-ok-plan.ensures in
+    let made = c.in_ok-plan.ensures in
     let short = short_for day.count c.args.levels.now c.args.leans.now c.args.table.now c.args.marks.now in
     let none : short ≡ None = answered_none short _ _ made.answer in
     let count = sub-zero (length c.slots-count.result.now) ∙ ap length c.slots-count.ensures in

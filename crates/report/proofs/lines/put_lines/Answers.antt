@@ -1,4 +1,4 @@
-use Rattle.std.proofs.Common.{◌≡◌, drop, string_bytes, sym, refl, ap, ◌∙◌, rules}
+use Rattle.std.proofs.Common.{drop, string_bytes, refl, ◌∙◌}
 use Rattle.report.proofs.Following.{handed_out, lines_more, lines_end, lines_done, unmade}
 use Rattle.report.proofs.lines.put_lines.Goals as goal
 
@@ -12,23 +12,23 @@ pub loop-i-preserved : goal.loop-i-preserved
 loop-i-preserved g c =
     let left = drop c.loop-i.following.next c.loop-i.following.levels.now in
     let handed = c.in-Some.ensures in
-    let said = c.as-str.ensures.value ∙ c.in-ok-line.ensures in (
-      lines_more g.C.Curve.ground g.C.Curve.steps c.args.slots.now c.loop-i.i c.index-slots-i.result c.loop-i.before left _ (string_bytes c.loop-i.text) _ c.as-str.result.now _ c.in-Some.level c.loop-i-test.true c.index-slots-i.is handed.level handed.left said c.in-ok-push-str.ensures.bytes c.loop-i.invariant.0,
+    let said = c.as_str.ensures.value ∙ c.in_ok-line.ensures in (
+      lines_more g.C.Curve.ground g.C.Curve.steps c.args.slots.now c.loop-i.i c.index-slots-i.result c.loop-i.before left _ (string_bytes c.loop-i.text) _ c.as_str.result.now _ c.in-Some.level c.loop-i-test.true c.index-slots-i.is handed.level handed.left said c.in_ok-push_str.ensures.bytes c.loop-i.invariant.0,
       rw handed.left (handed_out left c.in-Some.level handed.level c.loop-i.invariant.1).1,
     )
 
-pub returns-in-default : goal.returns-in-default
-returns-in-default g c =
+pub returns-in_default : goal.returns-in_default
+returns-in_default g c =
     let left = drop c.loop-i.following.next c.loop-i.following.levels.now in
-    rw (← c.follow-following.ensures) (lines_end c.loop-i.i _ c.loop-i.before left _ _ c.in-default.ensures.level c.loop-i.invariant.0)
+    rw (← c.follow-following.ensures) (lines_end c.loop-i.i _ c.loop-i.before left _ _ c.in_default.ensures.level c.loop-i.invariant.0)
 
 pub returns-after-loop-i : goal.returns-after-loop-i
 returns-after-loop-i g c =
     let left = drop c.loop-i.following.next c.loop-i.following.levels.now in
     rw (← c.follow-following.ensures) (lines_done g.C.Curve.ground g.C.Curve.steps c.args.slots.now c.loop-i.i c.loop-i.before left _ _ c.loop-i-test.false c.loop-i.invariant.0)
 
-pub returns-in-err-line : goal.returns-in-err-line
-returns-in-err-line g c = unmade c.from-residual.result _ c.from-residual.ensures.0
+pub returns-in_err-line : goal.returns-in_err-line
+returns-in_err-line g c = unmade c.from_residual.result _ c.from_residual.ensures.0
 
-pub returns-in-err-push-str : goal.returns-in-err-push-str
-returns-in-err-push-str g c = unmade c.from-residual-in-err-push-str.result _ c.from-residual-in-err-push-str.ensures.0
+pub returns-in_err-push_str : goal.returns-in_err-push_str
+returns-in_err-push_str g c = unmade c.from_residual-in_err-push_str.result _ c.from_residual-in_err-push_str.ensures.0

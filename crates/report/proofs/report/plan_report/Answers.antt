@@ -1,5 +1,5 @@
-use Rattle.std.proofs.Common.{◌≡◌, ℕ, length, take, sym, refl, ap, ◌∙◌, arith, w64, rules}
-use Rattle.std.proofs.lemmas.List.{length-map, length-take-le}
+use Rattle.std.proofs.Common.{length, take, sym, ap, ◌∙◌, arith, w64, rules}
+use Rattle.std.proofs.lemmas.List.{length-map}
 use Rattle.std.proofs.lemmas.Int.{to_z-of_z}
 use Rattle.std.proofs.lemmas.Bool.Decides.{nat_tests}
 use Rattle.optimum.proofs.Planned.{plan_within}
@@ -8,11 +8,11 @@ use Rattle.slots.specs.SlotTerms.{slot_terms, day_terms}
 use Rattle.report.proofs.PlanTexts.{within_top, text_made}
 use Rattle.report.proofs.report.plan_report.Goals as goal
 
-pub returns-in-default : goal.returns-in-default
-returns-in-default g c = let refused = c.in-default.ensures in let few = c.args.day.now.few in absurd (grind (arith, nat_tests))
+pub returns-in_default : goal.returns-in_default
+returns-in_default g c = let refused = c.in_default.ensures in let few = c.args.day.now.few in absurd (grind (arith, nat_tests))
 
-pub put-lines-requires : goal.put-lines-requires
-put-lines-requires g c =
+pub put_lines-requires : goal.put_lines-requires
+put_lines-requires g c =
     let day = c.args.day.now in
     let slots = take day.count day.slots.now in
     let within = plan_within (day_terms g.C.Curve.ground g.C.Curve.steps slots) (all_convex g.C.Curve.ground g.C.Curve.steps g.met.C.Curve.rising slots day.proper) (all_open g.C.Curve.ground g.C.Curve.steps slots day.proper) in
@@ -26,7 +26,7 @@ returns g c =
     let checked = c.in-Ok.ensures.1 in
     let many = ap length c.slots.ensures ∙ sym (length-map slots (slot_terms g.C.Curve.ground g.C.Curve.steps)) in
     let fits = to_z-of_z w64 c.cost-cost.result (search rules) in
-    let said = simp fits at c.in-ok-text.ensures.ok in
+    let said = simp fits at c.in_ok-text.ensures.ok in
     let listed = c.slots-2.ensures in
-    let more = rw listed at c.in-ok-put-lines.ensures in
+    let more = rw listed at c.in_ok-put_lines.ensures in
     text_made ts _ c.cost-cost.result _ _ _ many (c.cost-cost.ensures ∙ checked.1) checked.0 said more
