@@ -1,11 +1,11 @@
 -- Words read one after another.
-use Rattle.std.proofs.Common.{◌≡◌, ℕ, ◌+◌, ◌-◌, ◌<◌, ◌≤◌, true, false, cond, eqb, leb, List, [], ◌∷◌, map, length, get_or, take, drop, IsErrAnd, Some, None, Ok, Err, Option, Result, sym, refl, ap, ◌∙◌, subst, arith, Bor}
+use Rattle.std.proofs.Common.{◌≡◌, ℕ, ◌+◌, ◌-◌, ◌<◌, ◌≤◌, cond, eqb, leb, List, [], ◌∷◌, length, get_or, take, drop, IsErrAnd, Some, None, Ok, Err, Option, Result, sym, refl, ap, ◌∙◌, subst, arith, Bor}
 use lib.ListN.{get_or-map}
 use Rattle.std.proofs.lemmas.List.{length-map, drop-map, take_rest, drop_more}
 use Rattle.std.proofs.lemmas.Bool.{eq-eqb, ne_eqb, le-leb, lt-leb, cond-true, cond-false}
 use Rattle.script.specs.Answers.{texts, Fails, Says}
 use Rattle.script.specs.Reading.{exactly, at_least}
-use Rattle.script.specs.Words.{word, only_if, and_then}
+use Rattle.script.specs.Words.{word, and_then}
 use Rattle.script.specs.declared.fault.LineFault.{LineFault}
 use Rattle.script.specs.declared.fault.LineFault.TheVariants.{NotACall, NoMemory}
 

@@ -1,10 +1,10 @@
 -- Pieces that lack a byte, put in a row with it between them, are what their text is cut into.
-use Rattle.std.proofs.Common.{◌≡◌, ℕ, zero, suc, ◌+◌, ◌<◌, true, false, cond, eqb, List, [], ◌∷◌, ◌++◌, length, get_or, sym, refl, ap, ◌∙◌, subst, arith}
+use Rattle.std.proofs.Common.{◌≡◌, ℕ, suc, ◌<◌, false, eqb, List, [], ◌∷◌, ◌++◌, length, get_or, sym, refl, ap, ◌∙◌, arith}
 use Rattle.std.proofs.lemmas.Bool.{eq-eqb, ne_eqb}
 use Rattle.std.specs.Str.Iter.{LacksByte}
 use Rattle.std.specs.List.{join_with_byte}
 use Rattle.script.specs.Answers.{texts}
-use Rattle.script.specs.Words.{onto, cut}
+use Rattle.script.specs.Words.{cut}
 use Rattle.script.proofs.Chains.{Words, no_word}
 
 -- every piece lacks the byte

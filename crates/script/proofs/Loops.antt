@@ -1,5 +1,5 @@
 -- A turn more of each loop over words.
-use Rattle.std.proofs.Common.{◌≡◌, ℕ, ◌+◌, ◌*◌, ◌<◌, ◌≤◌, true, false, cond, List, [], ◌∷◌, ◌++◌, length, get_or, take, drop, set, ℤ, Some, None, codes, Option, sym, refl, ap, ◌∙◌, subst, inl, inr, append_assoc, append-nil, arith, Bor}
+use Rattle.std.proofs.Common.{◌≡◌, ℕ, ◌+◌, ◌*◌, ◌<◌, ◌≤◌, false, List, [], ◌∷◌, ◌++◌, length, get_or, take, drop, set, ℤ, Some, None, codes, Option, refl, ap, inl, inr, append_assoc, append-nil, arith, Bor}
 use Rattle.std.proofs.lemmas.Slice.Eq.{bytes_eq-Decides}
 use Rattle.std.proofs.lemmas.List.{drop_all, map_more, set_past}
 use Rattle.std.proofs.lemmas.Bool.{cases_Bool}
@@ -7,7 +7,6 @@ use Rattle.std.specs.Str.{bytes_eq}
 use Rattle.script.specs.Answers.{texts}
 use Rattle.script.specs.Reading.{knots_of, sides}
 use Rattle.script.specs.Words.{and_then, unsigned, signed, each}
-use Rattle.script.specs.declared.line.Knots.{Knots}
 use Rattle.script.proofs.Chains.{Words, no_word, next_word}
 
 -- the end of a list of words

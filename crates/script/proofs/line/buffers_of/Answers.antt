@@ -7,44 +7,44 @@ use Rattle.script.proofs.line.buffers_of.Goals as goal
 pub returns-in-empty : goal.returns-in-empty
 returns-in-empty c = none_lent c.args.words.now (search rules)
 
-pub returns-in-default : goal.returns-in-default
-returns-in-default c =
+pub returns-in_default : goal.returns-in_default
+returns-in_default c =
     let ws = c.args.words.now in
     let some : 0 < length ws = search rules in
     let short : length ws < 4 = search rules in
     some_lent ws some ∙ not_so 4 ws _ (λ e. omega (arith, short, e))
 
-pub returns-in-default·2 : goal.returns-in-default·2
-returns-in-default·2 c =
+pub returns-in_default-2 : goal.returns-in_default-2
+returns-in_default-2 c =
     let ws = c.args.words.now in
     let long : 5 ≤ length ws = search rules in
     some_lent ws (omega (arith, long)) ∙ not_so 4 ws _ (λ e. omega (arith, long, e))
 
-pub returns-in-err-number : goal.returns-in-err-number
-returns-in-err-number c =
+pub returns-in_err-number-in-len4 : goal.returns-in_err-number-in-len4
+returns-in_err-number-in-len4 c =
     let ws = c.args.words.now in
-    broke _ c.from-residual.result c.in-err-number.field-0.0 _ _ c.from-residual.ensures.1 c.in-err-number.ensures
+    broke _ c.from_residual.result c.in_err-number-in-len4.field-0.0 _ _ c.from_residual.ensures.1 c.in_err-number-in-len4.ensures
     (λ e. four_lent ws (search rules) ∙ stops (unsigned 64) ws 0 _ e)
 
-pub returns-in-err-number-2 : goal.returns-in-err-number-2
-returns-in-err-number-2 c =
+pub returns-in_err-number-in-len4-2 : goal.returns-in_err-number-in-len4-2
+returns-in_err-number-in-len4-2 c =
     let ws = c.args.words.now in
-    broke _ c.from-residual-in-err-number-2.result c.in-err-number-2.field-0.0 _ _ c.from-residual-in-err-number-2.ensures.1 c.in-err-number-2.ensures
-    (λ e. four_lent ws (search rules) ∙ reads (unsigned 64) ws 0 _ _ c.in-ok-number.ensures ∙ stops (unsigned 64) ws 1 _ e)
+    broke _ c.from_residual-in_err-number-in-len4-2.result c.in_err-number-in-len4-2.field-0.0 _ _ c.from_residual-in_err-number-in-len4-2.ensures.1 c.in_err-number-in-len4-2.ensures
+    (λ e. four_lent ws (search rules) ∙ reads (unsigned 64) ws 0 _ _ c.in_ok-number-in-len4.ensures ∙ stops (unsigned 64) ws 1 _ e)
 
-pub returns-in-err-number-3 : goal.returns-in-err-number-3
-returns-in-err-number-3 c =
+pub returns-in_err-number-in-len4-3 : goal.returns-in_err-number-in-len4-3
+returns-in_err-number-in-len4-3 c =
     let ws = c.args.words.now in
-    broke _ c.from-residual-in-err-number-3.result c.in-err-number-3.field-0.0 _ _ c.from-residual-in-err-number-3.ensures.1 c.in-err-number-3.ensures
-    (λ e. four_lent ws (search rules) ∙ reads (unsigned 64) ws 0 _ _ c.in-ok-number.ensures ∙ reads (unsigned 64) ws 1 _ _ c.in-ok-number-2.ensures ∙ stops (unsigned 64) ws 2 _ e)
+    broke _ c.from_residual-in_err-number-in-len4-3.result c.in_err-number-in-len4-3.field-0.0 _ _ c.from_residual-in_err-number-in-len4-3.ensures.1 c.in_err-number-in-len4-3.ensures
+    (λ e. four_lent ws (search rules) ∙ reads (unsigned 64) ws 0 _ _ c.in_ok-number-in-len4.ensures ∙ reads (unsigned 64) ws 1 _ _ c.in_ok-number-in-len4-2.ensures ∙ stops (unsigned 64) ws 2 _ e)
 
-pub returns-in-err-number-4 : goal.returns-in-err-number-4
-returns-in-err-number-4 c =
+pub returns-in_err-number-in-len4-4 : goal.returns-in_err-number-in-len4-4
+returns-in_err-number-in-len4-4 c =
     let ws = c.args.words.now in
-    broke _ c.from-residual-in-err-number-4.result c.in-err-number-4.field-0.0 _ _ c.from-residual-in-err-number-4.ensures.1 c.in-err-number-4.ensures
-    (λ e. four_lent ws (search rules) ∙ reads (unsigned 64) ws 0 _ _ c.in-ok-number.ensures ∙ reads (unsigned 64) ws 1 _ _ c.in-ok-number-2.ensures ∙ reads (unsigned 64) ws 2 _ _ c.in-ok-number-3.ensures ∙ stops (unsigned 64) ws 3 _ e)
+    broke _ c.from_residual-in_err-number-in-len4-4.result c.in_err-number-in-len4-4.field-0.0 _ _ c.from_residual-in_err-number-in-len4-4.ensures.1 c.in_err-number-in-len4-4.ensures
+    (λ e. four_lent ws (search rules) ∙ reads (unsigned 64) ws 0 _ _ c.in_ok-number-in-len4.ensures ∙ reads (unsigned 64) ws 1 _ _ c.in_ok-number-in-len4-2.ensures ∙ reads (unsigned 64) ws 2 _ _ c.in_ok-number-in-len4-3.ensures ∙ stops (unsigned 64) ws 3 _ e)
 
-pub returns-in-ok-number-4 : goal.returns-in-ok-number-4
-returns-in-ok-number-4 c =
+pub returns-in_ok-number-in-len4-4 : goal.returns-in_ok-number-in-len4-4
+returns-in_ok-number-in-len4-4 c =
     let ws = c.args.words.now in
-    four_lent ws (search rules) ∙ reads (unsigned 64) ws 0 _ _ c.in-ok-number.ensures ∙ reads (unsigned 64) ws 1 _ _ c.in-ok-number-2.ensures ∙ reads (unsigned 64) ws 2 _ _ c.in-ok-number-3.ensures ∙ reads (unsigned 64) ws 3 _ _ c.in-ok-number-4.ensures
+    four_lent ws (search rules) ∙ reads (unsigned 64) ws 0 _ _ c.in_ok-number-in-len4.ensures ∙ reads (unsigned 64) ws 1 _ _ c.in_ok-number-in-len4-2.ensures ∙ reads (unsigned 64) ws 2 _ _ c.in_ok-number-in-len4-3.ensures ∙ reads (unsigned 64) ws 3 _ _ c.in_ok-number-in-len4-4.ensures

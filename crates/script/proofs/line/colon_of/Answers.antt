@@ -1,6 +1,4 @@
 use Rattle.std.proofs.Common.{◌≡◌, get_or, codes, ◌∙◌, rules}
-use Rattle.script.specs.Reading.{sides}
-use Rattle.script.specs.Answers.{texts}
 use Rattle.script.proofs.Chains.{no_word}
 use Rattle.script.proofs.Loops.{sides_more, sides_found, sides_done}
 use Rattle.script.proofs.line.colon_of.Goals as goal

@@ -1,9 +1,9 @@
-use Rattle.std.proofs.Common.{◌<◌, ◌≤◌, length, ◌∙◌, arith, rules}
+use Rattle.std.proofs.Common.{◌<◌, length, arith, rules}
 use Rattle.script.proofs.Chains.{so, not_so}
 use Rattle.script.proofs.line.drop_of.Goals as goal
 
-pub returns-then-not-is-empty : goal.returns-then-not-is-empty
-returns-then-not-is-empty c =
+pub returns-then-not-is_empty : goal.returns-then-not-is_empty
+returns-then-not-is_empty c =
     let ws = c.args.words.now in
     let some : 0 < length ws = search rules in
     not_so 0 ws _ (λ e. omega (arith, some, e))

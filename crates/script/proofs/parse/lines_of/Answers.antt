@@ -8,7 +8,7 @@ use Rattle.script.proofs.parse.lines_of.Goals as goal
 
 pub returns : goal.returns
 returns c =
-    let items = vec_items c.in-ok-lines.lines in
+    let items = vec_items c.in_ok-lines.lines in
     let whole : c.args.text.now ≡ join_with_byte 10 (texts items) = search rules in
     let some : 0 < length items = search rules in
     let lack : (k : ℕ) → k < length items → LacksByte 10 (get_or items k no_word).now = search rules in

@@ -8,7 +8,7 @@ use Rattle.script.proofs.parse.words_of.Goals as goal
 
 pub returns : goal.returns
 returns c =
-    let items = vec_items c.in-ok-words.words in
+    let items = vec_items c.in_ok-words.words in
     let whole : c.args.line.now ≡ join_with_byte 32 (texts items) = search rules in
     let some : 0 < length items = search rules in
     let lack : (k : ℕ) → k < length items → LacksByte 32 (get_or items k no_word).now = search rules in

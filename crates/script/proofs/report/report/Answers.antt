@@ -5,8 +5,8 @@ use Rattle.script.proofs.report.report.Goals as goal
 
 pub loop-item-preserved : goal.loop-item-preserved
 loop-item-preserved c =
-    let line = c.as-str.ensures.value ∙ c.in-ok-line.ensures.line in
-    report_more c.args.entries.now c.loop-item.item-index c.item-item.result (iter_rest c.loop-item.told) (iter_rest c.next-line.new.told) (string_bytes c.loop-item.text) (string_bytes c.push-str.new.self) c.as-str.result.now c.loop-item-test.true c.item-item.is line c.in-ok-line.ensures.left c.in-ok-push-str.ensures.bytes
+    let line = c.as_str.ensures.value ∙ c.in_ok-line.ensures.line in
+    report_more c.args.entries.now c.loop-item.item-index c.item-item.result (iter_rest c.loop-item.told) (iter_rest c.next_line.new.told) (string_bytes c.loop-item.text) (string_bytes c.push_str.new.self) c.as_str.result.now c.loop-item-test.true c.item-item.is line c.in_ok-line.ensures.left c.in_ok-push_str.ensures.bytes
     ∙ c.loop-item.invariant
 
 pub returns : goal.returns
