@@ -126,7 +126,7 @@ fn small_days_have_the_plan_that_trying_all_finds(rt: HostRuntime) -> Result<(),
             *one = chance.slot(curve);
         }
         let mut memory = slots;
-        plan_is_found(&rt, &mut memory, &slots[number as usize % 3..]).note(number)?;
+        plan_is_found(&rt, &mut memory, &slots[number as usize % 3..])?;
     }
     Ok(())
 }
@@ -140,7 +140,7 @@ fn small_days_of_pairs_have_the_plan_that_trying_all_finds(rt: HostRuntime) -> R
         let third = Pair::new(chance.curve(), chance.curve())?;
         let slots = [chance.slot(first), chance.slot(second), chance.slot(third)];
         let mut memory = slots;
-        plan_is_found(&rt, &mut memory, &slots[number as usize % 3..]).note(number)?;
+        plan_is_found(&rt, &mut memory, &slots[number as usize % 3..])?;
     }
     Ok(())
 }

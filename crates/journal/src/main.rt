@@ -10,6 +10,7 @@ use slots::limits::MOST_SLOTS;
 use slots::slot::Slot;
 use std::alloc::{AllocError, Global};
 use std::io;
+use std::process::ExitCode;
 
 fn blank_slot() -> Slot<Written> {
     Slot {
@@ -42,10 +43,12 @@ fn run(rt: &HostRuntime) -> anyhow::Result<()> {
     Ok(())
 }
 
-fn main(rt: HostRuntime) -> anyhow::Result<()> {
-    let ran = run(&rt);
-    if let Err(fault) = &ran {
-        eprintln!(rt; "{fault}")?;
+fn main(rt: HostRuntime) -> ExitCode {
+    match run(&rt) {
+        Ok(()) => ExitCode::SUCCESS,
+        Err(fault) => {
+            let _ = eprintln!(rt; "{fault}");
+            ExitCode::FAILURE
+        }
     }
-    ran
 }

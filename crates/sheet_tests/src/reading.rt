@@ -74,7 +74,11 @@ fn cuts(rt: &impl Abort, heap: Global, sheet: &[u8], length: usize) -> Result<()
         Some(SheetFault { fault, slot, place })
     };
     assert!(rt; length <= sheet.len());
-    assert_eq!(rt; read_over(rt, heap, &sheet[0..length])?, expected);
+    assert_eq!(rt;
+        read_over(rt, heap, &sheet[0..length])?,
+        expected,
+        "length {length}"
+    );
     Ok(())
 }
 
@@ -91,7 +95,11 @@ fn damages(rt: &impl Abort, heap: Global, sheet: &[u8], place: usize) -> Result<
     for value in 0..256u16 {
         let turned = damaged(heap, sheet, place, value as u8)?;
         let fault = read_over(rt, heap, &turned)?;
-        assert_eq!(rt; is_refused(heap, &turned)?, fault.is_some());
+        assert_eq!(rt;
+            is_refused(heap, &turned)?,
+            fault.is_some(),
+            "place {place}"
+        );
     }
     Ok(())
 }
@@ -99,8 +107,8 @@ fn damages(rt: &impl Abort, heap: Global, sheet: &[u8], place: usize) -> Result<
 fn cuts_and_damages(rt: &impl Abort, heap: Global, slots: &[Slot<Written>; 3]) -> Result<(), Fail> {
     let sheet = sheet_of(heap, slots)?;
     for place in 0..107usize {
-        cuts(rt, heap, &sheet, place).note(place)?;
-        damages(rt, heap, &sheet, place).note(place)?;
+        cuts(rt, heap, &sheet, place)?;
+        damages(rt, heap, &sheet, place)?;
     }
     Ok(())
 }
