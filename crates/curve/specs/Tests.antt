@@ -1,7 +1,7 @@
 -- Tests that pass: both of two, and an order of integers.
 use Rattle.std.specs.Prelude.{◌≡◌, ℕ, Bool, true, false, ◌&&◌, T, List, [], ◌∷◌, ℤ, pos, neg_ℤ, ◌≤ℤ◌, None, int_le, refl}
 use Rattle.std.proofs.Common.{sym, subst, arith}
-use Rattle.std.specs.List.{AllByRecursion as All}
+use Rattle.std.specs.List.{AllByRecursion}
 use Rattle.curve.specs.Answers.{broken}
 use Rattle.curve.specs.Limits.{held_by}
 
@@ -37,10 +37,10 @@ pub held_of_bounds : (limit : ℕ) (z : ℤ) → neg_ℤ (pos limit) ≤ℤ z �
 held_of_bounds limit z low high = both (test_of_le _ _ low) (test_of_le _ _ high)
 
 -- where no rule is broken, each test passes
-pub all_pass : {F : Type 0} (rules : List (Bool × F)) → broken rules ≡ None → All (λ rule. rule.0 ≡ true) rules
+pub all_pass : {F : Type 0} (rules : List (Bool × F)) → broken rules ≡ None → AllByRecursion (λ rule. rule.0 ≡ true) rules
 all_pass [] e = tt
 all_pass (rule ∷ rules) e = split rule.0 refl (all_pass rules)
   where
-    split : (t : Bool) → rule.0 ≡ t → (broken rules ≡ None → All (λ rule. rule.0 ≡ true) rules) → (rule.0 ≡ true) × All (λ rule. rule.0 ≡ true) rules
+    split : (t : Bool) → rule.0 ≡ t → (broken rules ≡ None → AllByRecursion (λ rule. rule.0 ≡ true) rules) → (rule.0 ≡ true) × AllByRecursion (λ rule. rule.0 ≡ true) rules
     split true p rest = (p, rest (rw p at e))
     split false p rest = let refused = rw p at e in let z : ◌≡◌ {A = ℕ} 0 1 = cc in absurd (omega arith)

@@ -6,3 +6,6 @@ pub mod check;
 pub mod day;
 pub mod edits;
 pub mod following;
+
+// A day's callers name its slots and refusals here too.
+pub use slots::{limits, price, refusal, slot};

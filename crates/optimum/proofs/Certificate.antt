@@ -1,6 +1,6 @@
 -- Leans certify a plan that obeys the rules with them: its price is a sum of brackets, and each of them is least.
 use Rattle.std.proofs.Common.{◌≡◌, ℕ, List, [], ◌∷◌, ℤ, pos, ◌+ℤ◌, ◌-ℤ◌, Some, Option, arith}
-use Rattle.std.specs.List.{AllByRecursion as All}
+use Rattle.std.specs.List.{AllByRecursion}
 use Rattle.std.proofs.lemmas.Int.{ints}
 use Rattle.curve.specs.Meaning.{cost}
 use Rattle.optimum.specs.Plans.{Terms, Within, price}
@@ -27,7 +27,7 @@ price_brackets l n b t ts x xs = omega (arith, ints, toll_charge t b x, line_slo
 
 -- the price of a plan that obeys the rules is a lower bound of every price, and tight only for plans that obey them with the same leans
 price_bound :
-    (b c : Option ℕ) (ts : List Terms) (xs ys : List ℕ) (ls : List ℤ) → Alike b c → All Convex ts → Within ts xs → Within ts ys → Obeys b ts xs ls →
+    (b c : Option ℕ) (ts : List Terms) (xs ys : List ℕ) (ls : List ℤ) → Alike b c → AllByRecursion Convex ts → Within ts xs → Within ts ys → Obeys b ts xs ls →
     LowerBound (Obeys c ts ys ls) (leaned_price (next_lean ls) b ts xs) (leaned_price (next_lean ls) c ts ys)
 unfolding Within price next_lean
 price_bound b c [] [] [] [] a k p q o = rw (flat_before b, flat_before c) (bound_self (pos 0) (obeys_none c))

@@ -1,7 +1,7 @@
 -- How large the leans of the two passes can be, so that a program can rule out overflow.
 use Rattle.std.proofs.Common.{◌≡◌, ℕ, ◌+◌, ◌-◌, ◌*◌, ◌<◌, ◌≤◌, Bool, true, ◌&&◌, leb, List, [], ◌∷◌, ◌++◌, length, take, drop, ℤ, pos, neg_ℤ, ◌≤ℤ◌, Some, None, Option, arith}
 use native.Mathlib.Decide.{dec_lt}
-use Rattle.std.specs.List.{AllByRecursion as All}
+use Rattle.std.specs.List.{AllByRecursion}
 use Rattle.std.proofs.ByRecursion.{All-weaker, All-append, All-take, All-drop}
 use Rattle.std.proofs.lemmas.Int.{ints, clamps}
 use Rattle.curve.specs.Limits.{top, held_by}
@@ -59,8 +59,8 @@ module _ (b : ℕ) where
 
   -- behind a lean within n, those of the first pass over some slots lie within n and b for each of them
   forward_from_size :
-      (n : ℕ) (t₀ : Terms) (u : ℕ) (l₀ : ℤ) (ts : List Terms) (xs : List ℕ) → SizedTerms b t₀ → All (SizedTerms b) ts → u ≤ t₀.high → Within ts xs → Sized n l₀ →
-      All (Sized (n + length ts * b)) (forward_from t₀ u l₀ ts xs)
+      (n : ℕ) (t₀ : Terms) (u : ℕ) (l₀ : ℤ) (ts : List Terms) (xs : List ℕ) → SizedTerms b t₀ → AllByRecursion (SizedTerms b) ts → u ≤ t₀.high → Within ts xs → Sized n l₀ →
+      AllByRecursion (Sized (n + length ts * b)) (forward_from t₀ u l₀ ts xs)
   unfolding forward_from Within
   forward_from_size n t₀ u l₀ [] xs k₀ ks upto within s = tt
   forward_from_size n t₀ u l₀ (t ∷ ts) [] k₀ ks upto within s = tt
@@ -72,7 +72,7 @@ module _ (b : ℕ) where
       (sized_wider (n + b) (n + length (t ∷ ts) * b) (omega arith) l here, rw regroup at rest)
 
   -- the leans of the first pass over some slots lie within b for each of them
-  pub forward_size : (ts : List Terms) (xs : List ℕ) → All (SizedTerms b) ts → Within ts xs → All (Sized (length ts * b)) (forward ts xs)
+  pub forward_size : (ts : List Terms) (xs : List ℕ) → AllByRecursion (SizedTerms b) ts → Within ts xs → AllByRecursion (Sized (length ts * b)) (forward ts xs)
   unfolding forward forward_with Within
   forward_size [] xs ks within = tt
   forward_size (t ∷ ts) [] ks within = absurd within
@@ -95,15 +95,15 @@ module _ (b : ℕ) where
       ]
 
   -- the lean after the last slot is 0, so the first lean of a list lies within what all do
-  next_size : (n : ℕ) (ls : List ℤ) → All (Sized n) ls → Sized n (next_lean ls)
+  next_size : (n : ℕ) (ls : List ℤ) → AllByRecursion (Sized n) ls → Sized n (next_lean ls)
   unfolding next_lean
   next_size n [] all = record { least = omega (arith, ints); most = omega (arith, ints) }
   next_size n (l ∷ ls) all = all.0
 
   -- from leans within n, those of the second pass over some slots lie within n and b for each of them
   pub backward_size :
-      (n : ℕ) (ts : List Terms) (xs : List ℕ) (ls : List ℤ) → All (SizedTerms b) ts → All (Sized n) ls →
-      All (Sized (n + length ts * b)) (backward ts xs ls)
+      (n : ℕ) (ts : List Terms) (xs : List ℕ) (ls : List ℤ) → AllByRecursion (SizedTerms b) ts → AllByRecursion (Sized n) ls →
+      AllByRecursion (Sized (n + length ts * b)) (backward ts xs ls)
   unfolding backward
   backward_size n [] xs ls ks all = tt
   backward_size n (t ∷ ts) [] ls ks all = tt
@@ -118,8 +118,8 @@ module _ (b : ℕ) where
 
   -- so at every moment of the second pass, when it has come back to slot i, the leans before i and those from i on lie within that
   pub backward_moment :
-      (n : ℕ) (ts : List Terms) (xs : List ℕ) (ls : List ℤ) (i : ℕ) → All (SizedTerms b) ts → All (Sized n) ls →
-      All (Sized (n + length ts * b)) (take i ls ++ drop i (backward ts xs ls))
+      (n : ℕ) (ts : List Terms) (xs : List ℕ) (ls : List ℤ) (i : ℕ) → AllByRecursion (SizedTerms b) ts → AllByRecursion (Sized n) ls →
+      AllByRecursion (Sized (n + length ts * b)) (take i ls ++ drop i (backward ts xs ls))
   backward_moment n ts xs ls i ks all =
       let m : ℕ = n + length ts * b in
       let before = All-weaker (Sized n) (Sized m) (sized_wider n m (omega arith)) ls all in
@@ -140,7 +140,7 @@ module _ (b : ℕ) where
 
   -- leans that obey the rules lie within b
   pub obeys_size :
-      (before : Option ℕ) (ts : List Terms) (xs : List ℕ) (ls : List ℤ) → All (SizedTerms b) ts → Within ts xs → Obeys before ts xs ls → All (Sized b) ls
+      (before : Option ℕ) (ts : List Terms) (xs : List ℕ) (ls : List ℤ) → AllByRecursion (SizedTerms b) ts → Within ts xs → Obeys before ts xs ls → AllByRecursion (Sized b) ls
   unfolding Within
   obeys_size before ts xs [] ks within o = tt
   obeys_size before [] xs (l ∷ ls) ks within o = absurd (omega (arith, o.one_each))

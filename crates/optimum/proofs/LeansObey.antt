@@ -3,7 +3,7 @@
 use Rattle.std.proofs.Common.{◌≡◌, ℕ, zero, suc, ◌-◌, ◌<◌, ◌≤◌, List, [], ◌∷◌, ℤ, pos, negsuc, ◌-ℤ◌, neg_ℤ, ◌≤ℤ◌, Some, None, Option, sym, refl, ap, ◌∙◌, arith}
 use native.Mathlib.Decide.{dec_lt}
 use lib.IntN.{pred_ℤ}
-use Rattle.std.specs.List.{AllByRecursion as All}
+use Rattle.std.specs.List.{AllByRecursion}
 use Rattle.std.proofs.lemmas.Int.{ints, clamps}
 use Rattle.optimum.specs.Plans.{Terms, Within}
 use Rattle.optimum.specs.Leans.{Obeys, next_lean}
@@ -147,7 +147,7 @@ supports_none (Some u) x l s =
 
 -- the leans of both passes obey the rules along the walk, and the first lies in the interval of its level
 passes_obey :
-    (before : Option ℕ) (c : ℤ) (M : ℕ → ℤ) (ts : List Terms) → MessageTo before c M ts → All Convex ts → All Open ts →
+    (before : Option ℕ) (c : ℤ) (M : ℕ → ℤ) (ts : List Terms) → MessageTo before c M ts → AllByRecursion Convex ts → AllByRecursion Open ts →
     Between c M (first_level (walk M ts)) (next_lean (passes c M ts)) × Obeys before ts (walk M ts) (passes c M ts)
 unfolding walk Within first_level forward_with backward next_lean next_up next_down below
 passes_obey before c M [] m convex opens =
@@ -187,7 +187,7 @@ message_to_first ts = record {
 
 -- the leans of the two passes obey the rules with the plan of the sweep
 pub leans_obey :
-    (ts : List Terms) → All Convex ts → All Open ts →
+    (ts : List Terms) → AllByRecursion Convex ts → AllByRecursion Open ts →
     let xs : List ℕ = walk (λ _. pos 0) ts in Obeys None ts xs (backward ts xs (forward ts xs))
 unfolding forward
 leans_obey ts convex opens =

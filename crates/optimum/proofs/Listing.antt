@@ -3,7 +3,7 @@ use Rattle.std.proofs.Common.{ℕ, zero, suc, ◌+◌, ◌-◌, ◌<◌, ◌≤�
 use mathlib.Core.List.Memᴰ
 use mathlib.Core.List.{Memᴰ}
 use native.Mathlib.Decide.{dec_lt}
-use Rattle.std.specs.List.{AllByRecursion as All}
+use Rattle.std.specs.List.{AllByRecursion}
 use Rattle.std.proofs.ByRecursion.{All-append, All-map, All-weaker}
 use Rattle.optimum.specs.Plans.{Terms, Within}
 use Rattle.optimum.specs.Coldest.{NoWarmer, levels, behind, plans}
@@ -14,7 +14,7 @@ abbrev Among : ℕ → ℕ → ℕ → Type 0
 Among low n v = (low ≤ v) × (v < low + n)
 
 -- the levels are among themselves
-levels_among : (low n : ℕ) → All (Among low n) (levels low n)
+levels_among : (low n : ℕ) → AllByRecursion (Among low n) (levels low n)
 unfolding levels
 levels_among low zero = tt
 levels_among low (suc n) =
@@ -33,7 +33,7 @@ levels_all low (suc n) v among =
 
 -- what holds of each plan behind each level holds of all those plans
 behind_each : (P : ℕ → Type 0) (R : List ℕ → Type 0) (vs : List ℕ) (others : List (List ℕ)) →
-    ((v : ℕ) → P v → All (λ xs. R (v ∷ xs)) others) → All P vs → All R (behind vs others)
+    ((v : ℕ) → P v → AllByRecursion (λ xs. R (v ∷ xs)) others) → AllByRecursion P vs → AllByRecursion R (behind vs others)
 unfolding behind
 behind_each P R [] others each all = tt
 behind_each P R (v ∷ vs) others each all =
@@ -49,7 +49,7 @@ behind_all {xs = xs} {others} (Memᴰ.head {x = u} {xs = vs} e) member =
 behind_all {others = others} (Memᴰ.tail {x = u} level) member = Memᴰ.append_right (map (λ xs. u ∷ xs) others) (behind_all level member)
 
 -- the plans of the list are within the bounds
-pub plans_within : (ts : List Terms) → All (Within ts) (plans ts)
+pub plans_within : (ts : List Terms) → AllByRecursion (Within ts) (plans ts)
 unfolding plans Within
 plans_within [] = (tt, tt)
 plans_within (t ∷ ts) =
@@ -69,7 +69,7 @@ plans_all (t ∷ ts) (x ∷ xs) within =
     behind_all (levels_all t.low (suc t.high - t.low) x among) (plans_all ts xs within.2)
 
 -- a list from cold to warm, with warmer plans from cold to warm behind it
-order_append : (list more : List (List ℕ)) → ColdToWarm list → ColdToWarm more → All (λ xs. All (Warmer xs) more) list → ColdToWarm (list ++ more)
+order_append : (list more : List (List ℕ)) → ColdToWarm list → ColdToWarm more → AllByRecursion (λ xs. AllByRecursion (Warmer xs) more) list → ColdToWarm (list ++ more)
 order_append [] more first then warmer = then
 order_append (xs ∷ list) more first then warmer =
     (All-append (Warmer xs) list more first.0 warmer.0, order_append list more first.1 then warmer.1)
@@ -83,12 +83,12 @@ order_same v (xs ∷ list) order =
     (All-map (Warmer (v ∷ xs)) (λ ys. v ∷ ys) list warmer, order_same v list order.1)
 
 -- what holds of everything holds of each element
-all_any : {X : Type 0} (P : X → Type 0) → ((x : X) → P x) → (xs : List X) → All P xs
+all_any : {X : Type 0} (P : X → Type 0) → ((x : X) → P x) → (xs : List X) → AllByRecursion P xs
 all_any P any [] = tt
 all_any P any (x ∷ xs) = (any x, all_any P any xs)
 
 -- a plan that begins at a level is somewhere warmer than one that begins below it
-behind_warmer : (low n : ℕ) (others : List (List ℕ)) (xs : List ℕ) → All (Warmer (low ∷ xs)) (behind (levels (suc low) n) others)
+behind_warmer : (low n : ℕ) (others : List (List ℕ)) (xs : List ℕ) → AllByRecursion (Warmer (low ∷ xs)) (behind (levels (suc low) n) others)
 unfolding NoWarmer
 behind_warmer low n others xs =
     behind_each (Among (suc low) n) (Warmer (low ∷ xs)) (levels (suc low) n) others
@@ -101,9 +101,9 @@ unfolding levels behind
 order_behind low zero others order = tt
 order_behind low (suc n) others order =
     let later : List (List ℕ) = behind (levels (suc low) n) others in
-    let warmer = all_any (λ xs. All (Warmer (low ∷ xs)) later) (behind_warmer low n others) others in
+    let warmer = all_any (λ xs. AllByRecursion (Warmer (low ∷ xs)) later) (behind_warmer low n others) others in
     order_append (map (λ xs. low ∷ xs) others) later (order_same low others order) (order_behind (suc low) n others order)
-    (All-map (λ xs. All (Warmer xs) later) (λ xs. low ∷ xs) others warmer)
+    (All-map (λ xs. AllByRecursion (Warmer xs) later) (λ xs. low ∷ xs) others warmer)
 
 -- the list runs from cold to warm
 pub plans_order : (ts : List Terms) → ColdToWarm (plans ts)

@@ -1,6 +1,6 @@
 -- The plan of a day is the coldest, and it is the walk of the sweep.
 use Rattle.std.proofs.Common.{◌≡◌, ℕ, List, ◌≤ℤ◌, Option, sym, subst}
-use Rattle.std.specs.List.{AllByRecursion as All}
+use Rattle.std.specs.List.{AllByRecursion}
 use Rattle.optimum.specs.Plans.{Terms, Within, price, Cheapest}
 use Rattle.optimum.specs.Coldest.{NoWarmer, Coldest, plans, plan}
 use Rattle.optimum.specs.Theorems.{Convex, Open, PlanIsColdest}
@@ -33,7 +33,7 @@ module _ (before : Option ℕ) (ts : List Terms) (xs : List ℕ) where
   plan_found c = plan_first c.cheapest (c.coldest (plan before ts) (plan_cheapest c.cheapest.within))
 
 -- the plan of the day is the walk of the sweep
-pub plan_is_walk : (before : Option ℕ) (ts : List Terms) → All Convex ts → All Open ts → plan before ts ≡ walk (first_message before ts) ts
+pub plan_is_walk : (before : Option ℕ) (ts : List Terms) → AllByRecursion Convex ts → AllByRecursion Open ts → plan before ts ≡ walk (first_message before ts) ts
 plan_is_walk before ts convex opens = plan_found before ts (walk (first_message before ts) ts) (walk_is_coldest before ts convex opens)
 
 -- the plan of the day is the coldest

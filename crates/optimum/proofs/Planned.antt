@@ -1,7 +1,7 @@
 -- What the sweep, the walk back and the passes over leans give together: the plan of the day, with leans that obey the rules.
 use Rattle.std.proofs.Common.{◌≡◌, ℕ, ◌*◌, List, ◌++◌, length, take, drop, pos, None, sym, ap, ◌∙◌, subst, arith, take_all}
 use lib.Seq.{take-append-le, drop-append_seam}
-use Rattle.std.specs.List.{AllByRecursion as All}
+use Rattle.std.specs.List.{AllByRecursion}
 use Rattle.optimum.specs.Coldest.{plan}
 use Rattle.optimum.specs.Leans.{Obeys}
 use Rattle.optimum.specs.Plans.{Terms, Within}
@@ -22,7 +22,7 @@ front n xs ys same = take-append-le n xs ys (omega arith) ∙ take_all n xs (ome
 pub behind : {X : Type 0} (n : ℕ) (xs ys : List X) → n ≡ length xs → drop n (xs ++ ys) ≡ ys
 behind n xs ys same = rw same (drop-append_seam xs ys)
 
-module _ (ts : List Terms) (convex : All Convex ts) (opens : All Open ts) where
+module _ (ts : List Terms) (convex : AllByRecursion Convex ts) (opens : AllByRecursion Open ts) where
   -- the plan is what the walk finds
   pub plan_walk : plan None ts ≡ walk (λ _. pos 0) ts
   plan_walk = plan_found None ts (walk (λ _. pos 0) ts) (walk_from_none ts convex opens)

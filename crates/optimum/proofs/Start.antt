@@ -1,6 +1,6 @@
 -- The walk from the message to the first slot is the coldest plan of the day.
 use Rattle.std.proofs.Common.{◌≡◌, ℕ, List, ℤ, pos, ◌+ℤ◌, Some, None, Option, arith}
-use Rattle.std.specs.List.{AllByRecursion as All}
+use Rattle.std.specs.List.{AllByRecursion}
 use Rattle.std.proofs.lemmas.Int.{ints}
 use Rattle.optimum.specs.Plans.{Terms, Within, price}
 use Rattle.optimum.specs.Coldest.{Coldest}
@@ -32,7 +32,7 @@ price_offset (Some u) ts xs within =
     omega (arith, ints, price_from u ts xs within, charge_climb (next_growth ts) u (first_level xs))
 
 -- the walk from that message is the coldest plan
-pub walk_is_coldest : (before : Option ℕ) (ts : List Terms) → All Convex ts → All Open ts → Coldest before ts (walk (first_message before ts) ts)
+pub walk_is_coldest : (before : Option ℕ) (ts : List Terms) → AllByRecursion Convex ts → AllByRecursion Open ts → Coldest before ts (walk (first_message before ts) ts)
 walk_is_coldest before ts convex opens =
     let message = first_message before ts in
     let monotone = first_monotone before ts in
@@ -48,6 +48,6 @@ walk_is_coldest before ts convex opens =
     }
 
 -- where no level comes before, it is the walk from no message
-pub walk_from_none : (ts : List Terms) → All Convex ts → All Open ts → Coldest None ts (walk (λ _. pos 0) ts)
+pub walk_from_none : (ts : List Terms) → AllByRecursion Convex ts → AllByRecursion Open ts → Coldest None ts (walk (λ _. pos 0) ts)
 unfolding first_message
 walk_from_none = walk_is_coldest None

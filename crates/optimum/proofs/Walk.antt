@@ -1,7 +1,7 @@
 -- The walk back finds the coldest of the plans that cost least under a message.
 use Rattle.std.proofs.Common.{◌≡◌, ℕ, ◌≤◌, List, [], ◌∷◌, ℤ, pos, neg_ℤ, ◌≤ℤ◌, arith}
 use native.Mathlib.Decide.{dec_lt}
-use Rattle.std.specs.List.{AllByRecursion as All}
+use Rattle.std.specs.List.{AllByRecursion}
 use Rattle.std.proofs.lemmas.Int.{ints}
 use Rattle.optimum.specs.Plans.{Terms, Within}
 use Rattle.optimum.specs.Coldest.{NoWarmer}
@@ -12,7 +12,7 @@ use Rattle.optimum.proofs.Messages.{Monotone}
 use Rattle.optimum.proofs.PriceUnder.{price_under, next_monotone, price_under_least, price_under_less, price_under_same}
 
 -- the walk stays within the bounds
-pub walk_within : (message : ℕ → ℤ) (ts : List Terms) → All Open ts → Within ts (walk message ts)
+pub walk_within : (message : ℕ → ℤ) (ts : List Terms) → AllByRecursion Open ts → Within ts (walk message ts)
 unfolding walk Within held
 walk_within message [] opens = tt
 walk_within message (t ∷ ts) opens =
@@ -26,7 +26,7 @@ unfolding held next_up next_down
 last_level message t u v = omega arith
 
 -- no plan within the bounds costs less than the walk
-pub walk_least : (message : ℕ → ℤ) (ts : List Terms) → Monotone message → All Convex ts → All Open ts →
+pub walk_least : (message : ℕ → ℤ) (ts : List Terms) → Monotone message → AllByRecursion Convex ts → AllByRecursion Open ts →
     (ys : List ℕ) → Within ts ys → price_under message ts (walk message ts) ≤ℤ price_under message ts ys
 unfolding walk Within
 walk_least message [] monotone convex opens [] within = omega (arith, ints)
@@ -48,7 +48,7 @@ no_warmer_first (x ∷ xs) [] no-warmer = absurd no-warmer
 no_warmer_first (x ∷ xs) (y ∷ ys) no-warmer = no-warmer.0
 
 -- and the walk is nowhere warmer than a plan that costs as little
-pub walk_coldest : (message : ℕ → ℤ) (ts : List Terms) → Monotone message → All Convex ts → All Open ts →
+pub walk_coldest : (message : ℕ → ℤ) (ts : List Terms) → Monotone message → AllByRecursion Convex ts → AllByRecursion Open ts →
     (ys : List ℕ) → Within ts ys → price_under message ts ys ≤ℤ price_under message ts (walk message ts) → NoWarmer (walk message ts) ys
 unfolding walk Within NoWarmer held
 walk_coldest message [] monotone convex opens [] within as-little = tt

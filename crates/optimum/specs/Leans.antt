@@ -1,6 +1,6 @@
 -- The lean rules. A lean is the dual price of a move into its slot.
 use Rattle.std.specs.Prelude.{◌≡◌, ℕ, ◌-◌, Bool, true, cond, ◌&&◌, ◌||◌, List, [], ◌∷◌, ℤ, pos, ◌-ℤ◌, neg_ℤ, Some, None, Option, int_le, nat_le, nat_lt}
-use Rattle.std.specs.List.{AllByRecursion as All}
+use Rattle.std.specs.List.{AllByRecursion}
 use Rattle.optimum.specs.Plans.{Terms}
 
 -- what the rules look at in one slot: its terms, the level before it, if there is one, its level, its lean and the lean after it
@@ -50,6 +50,6 @@ at_rest s =
 -- leans obey the rules with a plan: one lean for each slot, and each rule holds in each slot
 pub record Obeys (before : Option ℕ) (ts : List Terms) (xs : List ℕ) (ls : List ℤ) : Type 0 where
   pub one_each : lib.ListN.length ls ≡ lib.ListN.length ts
-  pub bounds : All (λ s. bounded s ≡ true) (stands before ts xs ls)
-  pub moves : All (λ s. follows_move s ≡ true) (stands before ts xs ls)
-  pub rests : All (λ s. at_rest s ≡ true) (stands before ts xs ls)
+  pub bounds : AllByRecursion (λ s. bounded s ≡ true) (stands before ts xs ls)
+  pub moves : AllByRecursion (λ s. follows_move s ≡ true) (stands before ts xs ls)
+  pub rests : AllByRecursion (λ s. at_rest s ≡ true) (stands before ts xs ls)

@@ -1,6 +1,6 @@
 -- What leans are good for: they certify a plan, and they decide which plans are cheapest.
 use Rattle.std.specs.Prelude.{ℕ, suc, ◌<◌, ◌≤◌, List, ℤ, ◌≤ℤ◌, Option}
-use Rattle.std.specs.List.{AllByRecursion as All}
+use Rattle.std.specs.List.{AllByRecursion}
 use Rattle.optimum.specs.Plans.{Terms, Within, Cheapest}
 use Rattle.optimum.specs.Leans.{Obeys}
 use Rattle.optimum.specs.Coldest.{Coldest, plan}
@@ -13,13 +13,13 @@ Convex t = (v : ℕ) → suc v < t.high → t.steps v ≤ℤ t.steps (suc v)
 abbrev pub LeansCertify : Type 0
 LeansCertify =
     (before : Option ℕ) (ts : List Terms) (xs : List ℕ) (ls : List ℤ) →
-    All Convex ts → Within ts xs → Obeys before ts xs ls → Cheapest before ts xs
+    AllByRecursion Convex ts → Within ts xs → Obeys before ts xs ls → Cheapest before ts xs
 
 -- where some plan obeys the rules with given leans, a plan within the bounds obeys them with the same leans exactly if it is cheapest
 abbrev pub LeansDecide : Type 0
 LeansDecide =
     (before : Option ℕ) (ts : List Terms) (xs ys : List ℕ) (ls : List ℤ) →
-    All Convex ts → Within ts xs → Obeys before ts xs ls → Within ts ys →
+    AllByRecursion Convex ts → Within ts xs → Obeys before ts xs ls → Within ts ys →
     (Obeys before ts ys ls → Cheapest before ts ys) × (Cheapest before ts ys → Obeys before ts ys ls)
 
 -- a slot whose bounds leave a level open
@@ -29,4 +29,4 @@ Open t = t.low ≤ t.high
 -- the plan of a day, found by the search, is the coldest in every slot
 abbrev pub PlanIsColdest : Type 0
 PlanIsColdest =
-    (before : Option ℕ) (ts : List Terms) → All Convex ts → All Open ts → Coldest before ts (plan before ts)
+    (before : Option ℕ) (ts : List Terms) → AllByRecursion Convex ts → AllByRecursion Open ts → Coldest before ts (plan before ts)

@@ -1,6 +1,6 @@
 -- The second pass of leans, one slot at a time.
 use Rattle.std.proofs.Common.{◌≡◌, ℕ, ◌+◌, ◌-◌, ◌*◌, ◌<◌, ◌≤◌, List, ◌∷◌, ◌++◌, length, get_or, take, drop, set, ℤ, pos, sym, refl, ap, ◌∙◌, arith}
-use Rattle.std.specs.List.{AllByRecursion as All}
+use Rattle.std.specs.List.{AllByRecursion}
 use Rattle.std.proofs.ByRecursion.{All-get_or, All-drop}
 use Rattle.std.proofs.lemmas.List.{get_or-take, take-take, take-set, drop-set, drop_all, drop_more}
 use Rattle.std.proofs.lemmas.Int.{ints}
@@ -30,7 +30,7 @@ module _ (ts : List Terms) (xs : List ℕ) (given past : List ℤ) where
         size = record { least = omega (arith, ints); most = omega (arith, ints) };
       }
 
-  module _ (small : All (Sized (most_slots * toll_limit)) given) (all : length given ≡ length ts)
+  module _ (small : AllByRecursion (Sized (most_slots * toll_limit)) given) (all : length given ≡ length ts)
       (i : ℕ) (leans : List ℤ) (next : ℤ) (inside : i < length ts) (made : Made ts xs given past (i + 1) leans next) where
     -- the lean of slot i is still the given one
     unmade : get_or leans i (pos 0) ≡ get_or given i (pos 0)
@@ -43,7 +43,7 @@ module _ (ts : List Terms) (xs : List ℕ) (given past : List ℤ) where
 
     -- one slot more
     pub made_more :
-        (t : Terms) (lean : ℤ) → All (SizedTerms toll_limit) ts → length xs ≡ length ts → length ts ≤ length leans → drop i ts ≡ t ∷ drop (i + 1) ts →
+        (t : Terms) (lean : ℤ) → AllByRecursion (SizedTerms toll_limit) ts → length xs ≡ length ts → length ts ≤ length leans → drop i ts ≡ t ∷ drop (i + 1) ts →
         lean ≡ backward_lean t (get_or xs i 0) (get_or leans i (pos 0)) next → Made ts xs given past i (set leans i lean) lean
     unfolding backward next_lean
     made_more t lean sized each room slot is =

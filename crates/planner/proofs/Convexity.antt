@@ -1,7 +1,7 @@
 -- The terms of a day's slots are such as the theorems on leans and plans ask for.
 use Rattle.std.proofs.Common.{◌≡◌, ℕ, suc, ◌<◌, true, List, length, ℤ, ◌≤ℤ◌, None, refl, ◌∙◌, arith}
 use Rattle.std.proofs.lemmas.List.{length-map}
-use Rattle.std.specs.List.{AllByRecursion as All}
+use Rattle.std.specs.List.{AllByRecursion}
 use Rattle.std.proofs.ByRecursion.{All-map, All-weaker, Decides-by_and}
 use Rattle.std.proofs.lemmas.Bool.Decides.{nat_tests}
 use Rattle.curve.specs.Limits.{last_step}
@@ -16,19 +16,19 @@ module _ {C : Type 0} (ground : C → ℤ) (steps : C → ℕ → ℤ) where
   -- what follows from the rules for bounds and tolls holds of the terms of each slot
   all_terms :
       (P : _ → Type 0) → ((s : Slot C) → proper s ≡ true → P (slot_terms ground steps s)) →
-      (slots : List (Slot C)) → all_proper slots ≡ true → All P (day_terms ground steps slots)
+      (slots : List (Slot C)) → all_proper slots ≡ true → AllByRecursion P (day_terms ground steps slots)
   all_terms P each slots good =
       let keeps = (Decides-by_and proper (λ s. proper s ≡ true) all_proper (λ s. (λ e. e, λ e. e)) refl (λ _ _. refl) slots).0 good in
       All-map P (slot_terms ground steps) slots (All-weaker (λ s. proper s ≡ true) (λ s. P (slot_terms ground steps s)) each slots keeps)
 
   -- proper slots leave a level open
-  pub all_open : (slots : List (Slot C)) → all_proper slots ≡ true → All Open (day_terms ground steps slots)
+  pub all_open : (slots : List (Slot C)) → all_proper slots ≡ true → AllByRecursion Open (day_terms ground steps slots)
   all_open = all_terms Open (λ s good. grind (arith, nat_tests))
 
   -- where steps never fall, the terms of proper slots are convex
   pub all_convex :
       ((c : C) (v : ℕ) → v < last_step → steps c v ≤ℤ steps c (suc v)) →
-      (slots : List (Slot C)) → all_proper slots ≡ true → All Convex (day_terms ground steps slots)
+      (slots : List (Slot C)) → all_proper slots ≡ true → AllByRecursion Convex (day_terms ground steps slots)
   all_convex rising = all_terms Convex (λ s good v below. rising s.curve v (grind (arith, nat_tests)))
 
   -- so their plan has one level for each slot

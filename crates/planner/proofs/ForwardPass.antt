@@ -1,6 +1,6 @@
 -- The first pass of leans, one slot at a time.
 use Rattle.std.proofs.Common.{◌≡◌, ℕ, ◌+◌, ◌*◌, ◌<◌, ◌≤◌, List, [], ◌∷◌, ◌++◌, length, get_or, take, drop, set, ℤ, pos, sym, refl, ◌∙◌, append_assoc, arith}
-use Rattle.std.specs.List.{AllByRecursion as All}
+use Rattle.std.specs.List.{AllByRecursion}
 use Rattle.std.proofs.ByRecursion.{All-drop}
 use Rattle.std.proofs.lemmas.List.{append-nil, take-append-drop, take_more_set, drop-set-lt, drop_all, drop_more}
 use Rattle.std.proofs.lemmas.Int.{ints}
@@ -35,7 +35,7 @@ module _ (ts : List Terms) (xs : List ℕ) (past : List ℤ) where
       let found = rw (drop_all i ts (omega arith), append-nil) at led.found in
       sym (take-append-drop i leans) ∙ rw (← found, all, led.kept)
 
-  module _ (sized : All (SizedTerms toll_limit) ts) (within : Within ts xs)
+  module _ (sized : AllByRecursion (SizedTerms toll_limit) ts) (within : Within ts xs)
       (i : ℕ) (leans : List ℤ) (lean : ℤ) (inside : i < length ts) (room : length ts ≤ length leans) (led : Led ts xs past i leans lean) where
     -- the lean of slot i is written, and what follows it is still to be found
     written :

@@ -3,7 +3,7 @@ use Rattle.std.proofs.Common.{◌≡◌, ℕ, suc, ◌*◌, ◌<◌, ◌≤◌, 
 use Rattle.std.proofs.ByRecursion.{All-weaker}
 use Rattle.std.proofs.lemmas.List.{length-map}
 use Rattle.std.proofs.lemmas.Bool.Decides.{nat_tests}
-use Rattle.std.specs.List.{zip, AllByRecursion as All}
+use Rattle.std.specs.List.{zip, AllByRecursion}
 use Rattle.curve.specs.Limits.{last_step, step_limit}
 use Rattle.optimum.specs.Coldest.{plan}
 use Rattle.optimum.specs.Leans.{Obeys}
@@ -70,7 +70,7 @@ module _
     forward_behind rest = behind (length slots) (forward terms planned) rest forward_many
 
     -- and are small enough for the second
-    pub forward_small : length slots ≤ most_slots → All (Sized (most_slots * toll_limit)) (forward terms planned)
+    pub forward_small : length slots ≤ most_slots → AllByRecursion (Sized (most_slots * toll_limit)) (forward terms planned)
     forward_small few =
         let all = many in
         All-weaker

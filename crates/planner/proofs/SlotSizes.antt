@@ -1,6 +1,6 @@
 -- How large the terms of proper slots are, for curves that keep their law.
 use Rattle.std.proofs.Common.{◌≡◌, ℕ, ◌<◌, ◌≤◌, min, true, List, [], ◌∷◌, ℤ, pos, neg_ℤ, ◌≤ℤ◌, arith}
-use Rattle.std.specs.List.{AllByRecursion as All}
+use Rattle.std.specs.List.{AllByRecursion}
 use Rattle.std.proofs.lemmas.Bool.Decides.{nat_tests}
 use Rattle.curve.specs.Limits.{top, last_step, step_limit}
 use Rattle.curve.specs.Tests.{and_left, and_right}
@@ -32,6 +32,6 @@ module _ {C : Type 0} (ground : C → ℤ) (steps : C → ℕ → ℤ)
       (rw own at read, (proper_sized s h).steps v below)
 
   -- the terms of a day of proper slots are so sized
-  pub all_sized : (slots : List (Slot C)) → all_proper slots ≡ true → All (SizedTerms toll_limit) (day_terms ground steps slots)
+  pub all_sized : (slots : List (Slot C)) → all_proper slots ≡ true → AllByRecursion (SizedTerms toll_limit) (day_terms ground steps slots)
   all_sized [] h = tt
   all_sized (s ∷ slots) h = (proper_sized s (and_left (proper s) (all_proper slots) h), all_sized slots (and_right (proper s) (all_proper slots) h))

@@ -1,6 +1,6 @@
 // Leans for a plan, by one pass forward and one back.
 ghost use Rattle.std.specs.Prelude.{◌≡◌, ◌*◌, ◌≤◌, true, ◌++◌, length, take, drop};
-ghost use Rattle.std.specs.List.{AllByRecursion as All};
+ghost use Rattle.std.specs.List.{AllByRecursion};
 ghost use Rattle.optimum.proofs.LeanPasses.{forward_lean, backward_lean, forward, backward};
 ghost use Rattle.optimum.proofs.LeanSizes.{Sized};
 ghost use Rattle.optimum.specs.Plans.{Within};
@@ -63,7 +63,7 @@ pub(crate) fn lean_backward<C: Curve>(slots: &[Slot<C>], levels: &[u16], leans: 
     requires proper { all_proper slots.now ≡ true }
     requires one_each { length levels.now ≡ length slots.now }
     requires room { length slots.now ≤ length leans.old }
-    requires small { All (Sized (most_slots * toll_limit)) (take (length slots.now) leans.old) }
+    requires small { AllByRecursion (Sized (most_slots * toll_limit)) (take (length slots.now) leans.old) }
     ensures { leans.new ≡ backward (day_terms C.Curve.ground C.Curve.steps slots.now) levels.now (take (length slots.now) leans.old) ++ drop (length slots.now) leans.old }
 {
     let mut next = 0;

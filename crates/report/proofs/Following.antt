@@ -1,7 +1,7 @@
 -- The lines of a plan, one level at a time.
 use Rattle.std.proofs.Common.{◌≡◌, ℕ, ◌+◌, ◌<◌, ◌≤◌, true, List, [], ◌∷◌, ◌++◌, length, get_or, drop, ℤ, is_err, IfOk, Some, None, Ok, Err, Option, Result, sym, refl, ap, ◌∙◌, append_assoc, arith}
 use Rattle.std.proofs.lemmas.List.{append-nil, drop_more, drop_all}
-use Rattle.std.specs.List.{AllByRecursion as All}
+use Rattle.std.specs.List.{AllByRecursion}
 use Rattle.curve.specs.Limits.{top}
 use Rattle.optimum.specs.Plans.{Terms}
 use Rattle.slots.specs.SlotTerms.{slot_terms, day_terms}
@@ -10,7 +10,7 @@ use Rattle.day.specs.Followed.{first_of, rest_of}
 use Rattle.report.specs.Reports.{slot_line, slot_lines}
 
 -- the level that is handed out is one of those that were left, and the others are still left
-pub handed_out : (left : List ℕ) (x : ℕ) → Some x ≡ first_of left → All (λ v. v ≤ top) left → (x ≤ top) × All (λ v. v ≤ top) (rest_of left)
+pub handed_out : (left : List ℕ) (x : ℕ) → Some x ≡ first_of left → AllByRecursion (λ v. v ≤ top) left → (x ≤ top) × AllByRecursion (λ v. v ≤ top) (rest_of left)
 handed_out [] x e within = let z : ◌≡◌ {A = ℕ} 0 1 = cc in absurd (omega arith)
 handed_out (y ∷ left) x e within = let same : x ≡ y = cc in (rw same within.0, within.1)
 

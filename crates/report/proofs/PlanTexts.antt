@@ -2,7 +2,7 @@
 use Rattle.std.proofs.Common.{◌≡◌, ℕ, ◌≤◌, true, List, [], ◌∷◌, ◌++◌, length, ℤ, None, codes, decimal, arith}
 use Rattle.std.proofs.lemmas.Bool.Decides.{nat_tests}
 use Rattle.std.specs.Fmt.{signed_decimal}
-use Rattle.std.specs.List.{AllByRecursion as All}
+use Rattle.std.specs.List.{AllByRecursion}
 use Rattle.curve.specs.Limits.{top}
 use Rattle.curve.specs.Tests.{and_left, and_right}
 use Rattle.optimum.specs.Coldest.{plan}
@@ -13,7 +13,7 @@ use Rattle.slots.specs.declared.slot.Slot.{Slot}
 use Rattle.report.specs.Reports.{slot_lines, plan_text}
 
 -- no level within the bounds of proper slots is above the warmest
-pub within_top : {C : Type 0} (ground : C → ℤ) (steps : C → ℕ → ℤ) (slots : List (Slot C)) (xs : List ℕ) → all_proper slots ≡ true → Within (day_terms ground steps slots) xs → All (λ x. x ≤ top) xs
+pub within_top : {C : Type 0} (ground : C → ℤ) (steps : C → ℕ → ℤ) (slots : List (Slot C)) (xs : List ℕ) → all_proper slots ≡ true → Within (day_terms ground steps slots) xs → AllByRecursion (λ x. x ≤ top) xs
 unfolding Within
 within_top ground steps [] [] good within = tt
 within_top ground steps [] (x ∷ xs) good within = absurd within

@@ -1,6 +1,6 @@
 // The lines of a plan that is followed.
 ghost use Rattle.std.specs.Prelude.{◌≡◌, ◌≤◌, ◌++◌, IfOk, None, string_bytes, OnOk};
-ghost use Rattle.std.specs.List.{AllByRecursion as All};
+ghost use Rattle.std.specs.List.{AllByRecursion};
 ghost use Rattle.curve.specs.Limits.{top};
 ghost use Rattle.slots.specs.SlotTerms.{slot_terms, day_terms};
 ghost use Rattle.report.specs.Reports.{slot_line, slot_lines};
@@ -35,7 +35,7 @@ pub(crate) fn put_lines<C: Curve>(
     slots: &[Slot<C>],
     plan: CheckedPlan<'_>,
 ) -> Result<(), AllocError>
-    requires { All (λ x. x ≤ top) plan.levels.now }
+    requires { AllByRecursion (λ x. x ≤ top) plan.levels.now }
     ensures { OnOk result (string_bytes text.new ≡ string_bytes text.old ++ slot_lines 0 (day_terms C.Curve.ground C.Curve.steps slots.now) None plan.entry.levels.now) }
 {
     let mut following = plan.follow();

@@ -3,7 +3,7 @@ use Rattle.std.proofs.Common.{◌≡◌, ℕ, zero, suc, ◌+◌, ◌^◌, ◌<�
 use lib.Signed.{le_z, mag}
 use Rattle.std.proofs.ByRecursion.{All-get_or}
 use Rattle.std.proofs.lemmas.List.{get_or-take}
-use Rattle.std.specs.List.{AllByRecursion as All}
+use Rattle.std.specs.List.{AllByRecursion}
 use Rattle.curve.specs.Tests.{and_left, and_right, all_pass}
 use Rattle.curve.specs.KneeSteps.{rise_from, never_fall, knees_rules}
 use Rattle.curve.specs.Limits.{last_step, rate_limit, knee_limit, top, weight_limit, held_by}
@@ -24,26 +24,26 @@ held_size m (pos n) held = leb-true n (suc m) (and_right (le_z (negsuc m) (pos n
 held_size m (negsuc n) held = let least = leb-true n m (and_left (le_z (negsuc m) (negsuc n)) (le_z (negsuc n) (pos (suc m))) held) in omega arith
 
 -- rising levels and steps are small
-rising_small : (before : ℕ) (levels : List ℕ) → rise_from before levels ≡ true → All (λ l. l ≤ last_step) levels
+rising_small : (before : ℕ) (levels : List ℕ) → rise_from before levels ≡ true → AllByRecursion (λ l. l ≤ last_step) levels
 rising_small before [] rise = tt
 rising_small before (level ∷ levels) rise =
     let first = and_left (ltb before level && leb level last_step) (rise_from level levels) rise in
     (leb-true level last_step (and_right (ltb before level) (leb level last_step) first), rising_small level levels (and_right (ltb before level && leb level last_step) (rise_from level levels) rise))
 
-falling_small : (before : ℤ) (steps : List ℤ) → never_fall before steps ≡ true → All (λ z. held_by rate_limit z ≡ true) steps
+falling_small : (before : ℤ) (steps : List ℤ) → never_fall before steps ≡ true → AllByRecursion (λ z. held_by rate_limit z ≡ true) steps
 falling_small before [] rise = tt
 falling_small before (step ∷ steps) rise =
     let first = and_left (le_z before step && held_by rate_limit step) (never_fall step steps) rise in
     (and_right (le_z before step) (held_by rate_limit step) first, falling_small step steps (and_right (le_z before step && held_by rate_limit step) (never_fall step steps) rise))
 
 -- one of the first of a list, where all of those have a property
-among_first : {X : Type 0} (P : X → Type 0) (count k : ℕ) (xs : List X) (d : X) → k < count → k < length xs → All P (take count xs) → P (get_or xs k d)
+among_first : {X : Type 0} (P : X → Type 0) (count k : ℕ) (xs : List X) (d : X) → k < count → k < length xs → AllByRecursion P (take count xs) → P (get_or xs k d)
 among_first P count k xs d counted within all =
     let long : k < length (take count xs) = simp length-take (omega arith) in
     subst P (get_or-take count xs k d counted) (All-get_or P (take count xs) k d long all)
 
 -- what is written of a knee: one of those that count, or nought
-written_knee : {X : Type 0} (P : X → Type 0) (count k : ℕ) (xs shown : List X) (nought : X) → P nought → k < length shown → get_or shown k nought ≡ used count k xs nought → All P (take count shown) → P (used count k xs nought)
+written_knee : {X : Type 0} (P : X → Type 0) (count k : ℕ) (xs shown : List X) (nought : X) → P nought → k < length shown → get_or shown k nought ≡ used count k xs nought → AllByRecursion P (take count shown) → P (used count k xs nought)
 written_knee P count k xs shown nought none within is all = by_test (ltb k count) refl
   where
     by_test : (t : Bool) → ltb k count ≡ t → P (used count k xs nought)

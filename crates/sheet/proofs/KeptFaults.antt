@@ -1,7 +1,7 @@
 -- What a sheet keeps of a slot has the fault of the slot's curve, and no other.
 use Rattle.std.proofs.Common.{◌≡◌, ℕ, zero, suc, ◌<◌, ◌≤◌, Bool, true, false, cond, ◌&&◌, leb, List, [], ◌∷◌, ◌++◌, map, length, get_or, drop, pos, nat_abs, Some, None, refl, ap, ◌∙◌, zero-add, arith, le-ltb, eq-eqb}
 use Rattle.std.proofs.lemmas.List.{length-map}
-use Rattle.std.specs.List.{AllByRecursion as All}
+use Rattle.std.specs.List.{AllByRecursion}
 use Rattle.curve.specs.Tests.{and_left, and_right, both}
 use Rattle.curve.specs.Limits.{knee_limit}
 use Rattle.curve.specs.WrittenCurves.{written_fault}
@@ -68,7 +68,7 @@ kept_faultless s fine makes =
 pub kept_refused : (s : Slot Written) (fault : CurveFault) → SixKnees s.curve → written_fault s.curve ≡ Some fault → slot_fault (as_written s) ≡ Some (Curve fault)
 kept_refused s fault six is = curve_refused (as_written s) fault (kept_unused s.curve) ((same_meaning s.curve six).fault ∙ is)
 
-pub all_faultless : (slots : List (Slot Written)) → all_proper slots ≡ true → All MakesCurve slots → All (λ s. slot_fault (as_written s) ≡ None) slots
+pub all_faultless : (slots : List (Slot Written)) → all_proper slots ≡ true → AllByRecursion MakesCurve slots → AllByRecursion (λ s. slot_fault (as_written s) ≡ None) slots
 all_faultless [] fine makes = tt
 all_faultless (s ∷ slots) fine makes = (kept_faultless s (and_left (proper s) (all_proper slots) fine) makes.0, all_faultless slots (and_right (proper s) (all_proper slots) fine) makes.1)
 

@@ -1,7 +1,7 @@
 -- What a sheet keeps of a curve means what the curve means.
 use Rattle.std.proofs.Common.{◌≡◌, ℕ, ◌<◌, min, ◌&&◌, leb, List, [], ◌∷◌, length, get_or, take, ℤ, pos, Option, sym, refl, ap, ◌∙◌, ap₂, zero-add, arith, length-take, lt-ltb}
 use Rattle.std.proofs.lemmas.List.{ext_get_or, get_or-take}
-use Rattle.std.specs.List.{AllByRecursion as All}
+use Rattle.std.specs.List.{AllByRecursion}
 use Rattle.curve.specs.Answers.{broken}
 use Rattle.curve.specs.KneeSteps.{rise_from, never_fall, knees_fault, step_at, knees_step}
 use Rattle.curve.specs.Limits.{rate_limit, ground_limit, knee_limit, held_by}
@@ -50,6 +50,6 @@ same_meaning (Knees ground first count levels steps) six =
       steps = λ v. ap₂ (λ (f : Option CurveFault) (z : ℤ). unless f z) fault (ap₂ (step_at v first) same_levels same_steps);
     }
 
-pub for_all : {X : Type 0} (P : X → Type 0) → ((x : X) → P x) → (xs : List X) → All P xs
+pub for_all : {X : Type 0} (P : X → Type 0) → ((x : X) → P x) → (xs : List X) → AllByRecursion P xs
 for_all P each [] = tt
 for_all P each (x ∷ xs) = (each x, for_all P each xs)

@@ -1,7 +1,7 @@
 -- A sheet that slots were written to reads back as what it keeps of them.
 use Rattle.std.proofs.Common.{◌≡◌, ℕ, zero, suc, ◌+◌, ◌<◌, ◌≤◌, true, List, [], ◌∷◌, ◌++◌, map, length, drop, Some, None, Ok, Err, Option, Result, sym, refl, ap, ◌∙◌, ap₂, arith, length-append}
 use Rattle.std.proofs.lemmas.List.{append-nil, take_at, drop_at}
-use Rattle.std.specs.List.{AllByRecursion as All}
+use Rattle.std.specs.List.{AllByRecursion}
 use Rattle.curve.specs.declared.written.Written.{Written}
 use Rattle.slots.specs.Slots.{all_proper}
 use Rattle.slots.specs.declared.slot.Slot.{Slot}
@@ -60,7 +60,7 @@ gone_on more slot place s slots fine =
     ∙ ap₂ (λ (n : ℕ) (left : List ℕ). followed_by (as_written s) (decode more (slot + 1) (place + n) left)) whole rest
 
 -- all of them
-decode_encode : (more slot place : ℕ) (slots : List (Slot Written)) → All Faultless slots → length slots ≤ more → decode more slot place (encode slots) ≡ Ok (map as_written slots)
+decode_encode : (more slot place : ℕ) (slots : List (Slot Written)) → AllByRecursion Faultless slots → length slots ≤ more → decode more slot place (encode slots) ≡ Ok (map as_written slots)
 unfolding decode encode
 decode_encode more slot place [] fine room = refl
 decode_encode zero slot place (s ∷ slots) fine room = absurd (omega arith)
@@ -74,7 +74,7 @@ place_past place s slots = let size = length-append (encode_slot s) (encode slot
 
 -- or those before the first that has a fault
 decode_refused :
-    (more slot place : ℕ) (before after : List (Slot Written)) (s : Slot Written) (fault : RecordFault) → All Faultless before → Fitting s → slot_fault (as_written s) ≡ Some fault → length before < more →
+    (more slot place : ℕ) (before after : List (Slot Written)) (s : Slot Written) (fault : RecordFault) → AllByRecursion Faultless before → Fitting s → slot_fault (as_written s) ≡ Some fault → length before < more →
     decode more slot place (encode (before ++ s ∷ after)) ≡ Err (record { fault = fault; slot = slot + length before; place = place + length (encode before) })
 unfolding decode encode encode_slot
 decode_refused zero slot place before after s fault fine held broken room = absurd (omega arith)

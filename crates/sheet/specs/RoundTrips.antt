@@ -1,6 +1,6 @@
 -- Reading undoes writing, and writing undoes reading.
 use Rattle.std.specs.Prelude.{◌≡◌, ℕ, ◌<◌, ◌≤◌, List, ◌∷◌, ◌++◌, map, length, Some, None, Ok, Err}
-use Rattle.std.specs.List.{AllByRecursion as All}
+use Rattle.std.specs.List.{AllByRecursion}
 use Rattle.curve.specs.Limits.{knee_limit}
 use Rattle.curve.specs.WrittenCurves.{written_fault, written_ground, written_steps}
 use Rattle.curve.specs.declared.fault.CurveFault.{CurveFault}
@@ -36,16 +36,16 @@ pub record SameMeaning (c d : Written) : Type 0 where
 -- slots that were read from a sheet: writing them gives the same bytes, curves can be made from all of them, and a sheet keeps each as it is
 pub record WritesBack (slots : List (Slot Written)) (sheet : List ℕ) : Type 0 where
   pub bytes : encode slots ≡ sheet
-  pub curves : All MakesCurve slots
+  pub curves : AllByRecursion MakesCurve slots
   pub kept : map as_written slots ≡ slots
 
 -- a sheet that a day's slots were written to
 pub record ReadsBack (slots : List (Slot Written)) (sheet : List ℕ) : Type 0 where
   -- where curves can be made from all of them, it reads back as what it keeps of them, in any day that can hold them
-  pub whole : All MakesCurve slots → (room : ℕ) → length slots ≤ room → decoded room sheet ≡ Ok (map as_written slots)
+  pub whole : AllByRecursion MakesCurve slots → (room : ℕ) → length slots ≤ room → decoded room sheet ≡ Ok (map as_written slots)
   -- the first from which none can be made is refused, with the curve's own fault
   pub refused :
-      (before after : List (Slot Written)) (s : Slot Written) (fault : CurveFault) → slots ≡ before ++ s ∷ after → All MakesCurve before → Fitting s → SixKnees s.curve → written_fault s.curve ≡ Some fault →
+      (before after : List (Slot Written)) (s : Slot Written) (fault : CurveFault) → slots ≡ before ++ s ∷ after → AllByRecursion MakesCurve before → Fitting s → SixKnees s.curve → written_fault s.curve ≡ Some fault →
       (room : ℕ) → length before < room → decoded room sheet ≡ Err (record { fault = Curve fault; slot = length before; place = length (encode before) })
   -- and what it keeps of a curve means what the curve means
-  pub meaning : All (λ s. SixKnees s.curve → SameMeaning (as_written s).curve s.curve) slots
+  pub meaning : AllByRecursion (λ s. SixKnees s.curve → SameMeaning (as_written s).curve s.curve) slots

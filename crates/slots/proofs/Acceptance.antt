@@ -1,6 +1,6 @@
 -- What it means that a check accepts a plan with leans: the levels lie within the bounds, the leans obey the rules, and the plan is cheapest.
 use Rattle.std.proofs.Common.{◌≡◌, ℕ, Bool, true, List, [], ◌∷◌, length, ℤ, Some, None, Option, refl, arith}
-use Rattle.std.specs.List.{zip, AllByRecursion as All}
+use Rattle.std.specs.List.{zip, AllByRecursion}
 use Rattle.std.specs.Option.{option_map}
 use Rattle.std.proofs.lemmas.Bool.Decides.{nat_tests}
 use Rattle.optimum.specs.Plans.{Terms, Within, Cheapest}
@@ -16,24 +16,24 @@ use Rattle.slots.proofs.WithinBounds.{within_from, within_inside}
 use Rattle.optimum.proofs.Lengths.{within_length}
 
 -- where there is no first refusal, there is none at all
-no_refusal : (rules : List (Option Refusal)) → first_refusal rules ≡ None → All (λ r. r ≡ None) rules
+no_refusal : (rules : List (Option Refusal)) → first_refusal rules ≡ None → AllByRecursion (λ r. r ≡ None) rules
 no_refusal [] e = tt
 no_refusal (None ∷ more) e = (refl, no_refusal more e)
 no_refusal (Some refusal ∷ more) e = grind arith
 
 -- and where there is none at all, there is no first
-refuses_none : (rules : List (Option Refusal)) → All (λ r. r ≡ None) rules → first_refusal rules ≡ None
+refuses_none : (rules : List (Option Refusal)) → AllByRecursion (λ r. r ≡ None) rules → first_refusal rules ≡ None
 refuses_none [] none = refl
 refuses_none (None ∷ more) none = refuses_none more none.1
 refuses_none (Some refusal ∷ more) none = none.0
 
 module _ {X : Type 0} (test : X → Bool) (refusal : ℕ → Refusal) (xs : List X) where
   -- a rule that refuses no place holds at each
-  holds : option_map refusal (earliest test xs) ≡ None → All (λ x. test x ≡ true) xs
+  holds : option_map refusal (earliest test xs) ≡ None → AllByRecursion (λ x. test x ≡ true) xs
   holds e = all_from_none test xs (none_mapped refusal (earliest test xs) e)
 
   -- and a rule that holds at each place refuses none
-  refuses : All (λ x. test x ≡ true) xs → option_map refusal (earliest test xs) ≡ None
+  refuses : AllByRecursion (λ x. test x ≡ true) xs → option_map refusal (earliest test xs) ≡ None
   refuses pass = rw (none_from_all test xs pass)
 
 module _ (ts : List Terms) (xs : List ℕ) (ls : List ℤ) where
@@ -63,7 +63,7 @@ module _ (ts : List Terms) (xs : List ℕ) (ls : List ℤ) where
       let rests = refuses at_rest Rest (stands None ts xs ls) obeys.rests in
       refuses_none (check_rules ts xs ls) (grind (arith, nat_tests), (inner, (bounds, (moves, (rests, tt)))))
 
-  module _ (convex : All Convex ts) where
+  module _ (convex : AllByRecursion Convex ts) where
     -- what a check accepts is cheapest
     pub cheapest_from_accepted : check_refusal ts xs ls ≡ None → Cheapest None ts xs
     cheapest_from_accepted none = let kept = obeys_from_accepted none in leans_certify None ts xs ls convex kept.0 kept.1

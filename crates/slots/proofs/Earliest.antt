@@ -1,7 +1,7 @@
 -- The first place at which a test fails, as a search through a list finds it.
 use Rattle.std.proofs.Common.{◌≡◌, ℕ, suc, ◌+◌, Bool, true, false, List, [], ◌∷◌, Some, None, Option, refl, ap, arith}
 use Rattle.std.specs.Option.{option_map}
-use Rattle.std.specs.List.{AllByRecursion as All}
+use Rattle.std.specs.List.{AllByRecursion}
 use Rattle.slots.specs.Judging.{earliest}
 
 -- a place in what is left after the first n, counted from the start
@@ -40,17 +40,17 @@ module _ {X : Type 0} (test : X → Bool) where
   earliest_end left n over = rw over
 
   -- where each element passes there is no such place
-  pub none_from_all : (xs : List X) → All (λ x. test x ≡ true) xs → earliest test xs ≡ None
+  pub none_from_all : (xs : List X) → AllByRecursion (λ x. test x ≡ true) xs → earliest test xs ≡ None
   unfolding earliest
   none_from_all [] pass = refl
   none_from_all (x ∷ xs) pass = rw (pass.0, none_from_all xs pass.1)
 
   -- where there is no such place each element passes
-  pub all_from_none : (xs : List X) → earliest test xs ≡ None → All (λ x. test x ≡ true) xs
+  pub all_from_none : (xs : List X) → earliest test xs ≡ None → AllByRecursion (λ x. test x ≡ true) xs
   unfolding earliest
   all_from_none [] e = tt
   all_from_none (x ∷ xs) e = split (test x) refl (all_from_none xs)
     where
-      split : (t : Bool) → test x ≡ t → (earliest test xs ≡ None → All (λ x. test x ≡ true) xs) → (test x ≡ true) × All (λ x. test x ≡ true) xs
+      split : (t : Bool) → test x ≡ t → (earliest test xs ≡ None → AllByRecursion (λ x. test x ≡ true) xs) → (test x ≡ true) × AllByRecursion (λ x. test x ≡ true) xs
       split true p rest = (p, rest (none_mapped suc (earliest test xs) (rw p at e)))
       split false p rest = let found = rw p at e in let z : ◌≡◌ {A = ℕ} 0 1 = cc in absurd (omega arith)

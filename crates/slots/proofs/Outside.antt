@@ -1,7 +1,7 @@
 -- The earliest slot whose level is out of bounds, and what it means that there is none.
 use Rattle.std.proofs.Common.{◌≡◌, ℕ, ◌+◌, ◌≤◌, true, false, ◌⊎◌, List, [], ◌∷◌, length, ℤ, Some, None, Option, refl, inl, inr, arith}
 use Rattle.std.proofs.lemmas.Bool.Decides.{nat_tests}
-use Rattle.std.specs.List.{zip, AllByRecursion as All}
+use Rattle.std.specs.List.{zip, AllByRecursion}
 use Rattle.curve.specs.Limits.{top}
 use Rattle.curve.specs.Tests.{and_left, and_right}
 use Rattle.slots.specs.Judging.{earliest, inside}
@@ -34,7 +34,7 @@ module _ {C : Type 0} (ground : C → ℤ) (steps : C → ℕ → ℤ) where
   outside_end n (s ∷ ss) levels (inr e) = rw e (earliest_end inside _ n refl)
 
   -- levels within the bounds of proper slots are not above the warmest
-  pub levels_low : (slots : List (Slot C)) (levels : List ℕ) → all_proper slots ≡ true → length levels ≡ length slots → All (λ p. inside p ≡ true) (zip (day_terms ground steps slots) levels) → All (λ x. x ≤ top) levels
+  pub levels_low : (slots : List (Slot C)) (levels : List ℕ) → all_proper slots ≡ true → length levels ≡ length slots → AllByRecursion (λ p. inside p ≡ true) (zip (day_terms ground steps slots) levels) → AllByRecursion (λ x. x ≤ top) levels
   levels_low slots [] good same within = tt
   levels_low [] (x ∷ xs) good same within = absurd (omega arith)
   levels_low (s ∷ ss) (x ∷ xs) good same within =

@@ -3,7 +3,7 @@ use Rattle.std.proofs.Common.{◌≡◌, ℕ, zero, suc, ◌+◌, ◌<◌, ◌�
 use Rattle.std.proofs.lemmas.List.{drop_more, drop_all}
 use Rattle.std.proofs.lemmas.Int.{ints}
 use Rattle.std.proofs.lemmas.Bool.Decides.{nat_tests}
-use Rattle.std.specs.List.{zip, AllByRecursion as All}
+use Rattle.std.specs.List.{zip, AllByRecursion}
 use Rattle.curve.specs.Tests.{and_left, and_right, both}
 use Rattle.curve.specs.Limits.{top, held_by}
 use Rattle.optimum.specs.Leans.{Stand, stands, next_lean, bounded}
@@ -24,7 +24,7 @@ next_lean_left (l ∷ leans) zero = refl
 next_lean_left (l ∷ leans) (suc i) = next_lean_left leans i
 
 -- what asks nothing holds of all
-pub all_free : {X : Type 0} (xs : List X) → All (λ _. Unit {0}) xs
+pub all_free : {X : Type 0} (xs : List X) → AllByRecursion (λ _. Unit {0}) xs
 all_free [] = tt
 all_free (x ∷ xs) = (tt, all_free xs)
 
@@ -65,7 +65,7 @@ module _ {C : Type 0} (ground : C → ℤ) (steps : C → ℕ → ℤ) where
   next_small :
       (before : Option ℕ) (slots : List (Slot C)) (levels : List ℕ) (leans : List ℤ) →
       length levels ≡ length slots → length leans ≡ length slots → all_proper slots ≡ true →
-      All (λ s. bounded s ≡ true) (stands before (day_terms ground steps slots) levels leans) →
+      AllByRecursion (λ s. bounded s ≡ true) (stands before (day_terms ground steps slots) levels leans) →
       held_by toll_limit (next_lean leans) ≡ true
   unfolding stands next_lean
   next_small before slots levels [] levels-each leans-each kept within = refl
@@ -78,9 +78,9 @@ module _ {C : Type 0} (ground : C → ℤ) (steps : C → ℕ → ℤ) where
   pub stands_small :
       (before : Option ℕ) (slots : List (Slot C)) (levels : List ℕ) (leans : List ℤ) →
       length levels ≡ length slots → length leans ≡ length slots → all_proper slots ≡ true →
-      All (λ p. inside p ≡ true) (zip (day_terms ground steps slots) levels) →
-      All (λ s. bounded s ≡ true) (stands before (day_terms ground steps slots) levels leans) →
-      All (λ s. small toll_limit s ≡ true) (stands before (day_terms ground steps slots) levels leans)
+      AllByRecursion (λ p. inside p ≡ true) (zip (day_terms ground steps slots) levels) →
+      AllByRecursion (λ s. bounded s ≡ true) (stands before (day_terms ground steps slots) levels leans) →
+      AllByRecursion (λ s. small toll_limit s ≡ true) (stands before (day_terms ground steps slots) levels leans)
   unfolding stands
   stands_small before [] levels leans levels-each leans-each kept insides within = tt
   stands_small before (s ∷ slots) [] leans levels-each leans-each kept insides within = tt

@@ -1,12 +1,12 @@
 -- Levels inside their bounds, one by one, and a plan within the bounds.
 use Rattle.std.proofs.Common.{◌≡◌, ℕ, true, List, [], ◌∷◌, length, arith}
 use Rattle.std.proofs.lemmas.Bool.Decides.{nat_tests}
-use Rattle.std.specs.List.{zip, AllByRecursion as All}
+use Rattle.std.specs.List.{zip, AllByRecursion}
 use Rattle.optimum.specs.Plans.{Terms, Within}
 use Rattle.slots.specs.Judging.{inside}
 
 -- levels for all slots, each inside its bounds, are a plan within the bounds
-pub within_from : (ts : List Terms) (xs : List ℕ) → length xs ≡ length ts → All (λ p. inside p ≡ true) (zip ts xs) → Within ts xs
+pub within_from : (ts : List Terms) (xs : List ℕ) → length xs ≡ length ts → AllByRecursion (λ p. inside p ≡ true) (zip ts xs) → Within ts xs
 unfolding Within
 within_from [] [] same all = tt
 within_from [] (x ∷ xs) same all = omega arith
@@ -16,7 +16,7 @@ within_from (t ∷ ts) (x ∷ xs) same all =
     (grind (arith, nat_tests), grind (arith, nat_tests), within_from ts xs (omega arith) all.1)
 
 -- each level of a plan within the bounds is inside its bounds
-pub within_inside : (ts : List Terms) (xs : List ℕ) → Within ts xs → All (λ p. inside p ≡ true) (zip ts xs)
+pub within_inside : (ts : List Terms) (xs : List ℕ) → Within ts xs → AllByRecursion (λ p. inside p ≡ true) (zip ts xs)
 unfolding Within
 within_inside [] xs within = tt
 within_inside (t ∷ ts) [] within = tt

@@ -1,6 +1,6 @@
 // Checking a plan, whoever made it, by leans.
 ghost use Rattle.std.specs.Prelude.{◌≡◌, ◌+◌, ◌<◌, length, pos, None, slice_index_or};
-ghost use Rattle.std.specs.List.{AllByRecursion as All};
+ghost use Rattle.std.specs.List.{AllByRecursion};
 ghost use Rattle.optimum.specs.Leans.{stands};
 ghost use Rattle.optimum.specs.Plans.{price};
 ghost use Rattle.slots.specs.Judging.{earliest, check_refusal};
@@ -29,7 +29,7 @@ fn lean_after(leans: &[i64], slot: usize) -> i64
 // The earliest slot that breaks a rule.
 fn first_break<R: Rule, C: Curve>(slots: &[Slot<C>], levels: &[u16], leans: &[i64]) -> Option<usize>
     requires one_each { (length levels.now ≡ length slots.now) × (length leans.now ≡ length slots.now) }
-    requires given { All R.Rule.given (stands None (day_terms C.Curve.ground C.Curve.steps slots.now) levels.now leans.now) }
+    requires given { AllByRecursion R.Rule.given (stands None (day_terms C.Curve.ground C.Curve.steps slots.now) levels.now leans.now) }
     ensures { result ≡ earliest R.Rule.test (stands None (day_terms C.Curve.ground C.Curve.steps slots.now) levels.now leans.now) }
 {
     let mut before = None;

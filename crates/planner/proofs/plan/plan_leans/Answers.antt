@@ -1,5 +1,5 @@
 use Rattle.std.proofs.Common.{ℕ, ◌*◌, List, ◌++◌, length, take, drop, ℤ, None, sym, ap, ◌∙◌, subst, ap₂, arith}
-use Rattle.std.specs.List.{AllByRecursion as All}
+use Rattle.std.specs.List.{AllByRecursion}
 use Rattle.optimum.specs.Leans.{Obeys}
 use Rattle.optimum.proofs.LeanPasses.{forward, backward}
 use Rattle.optimum.proofs.LeanSizes.{Sized}
@@ -25,7 +25,7 @@ lean_backward-requires g c =
       proper = c.requires.proper;
       one_each = ap length c.requires.planned ∙ planned_length g.C.Curve.ground g.C.Curve.steps g.met.C.Curve.rising g.met.C.Curve.bounded slots c.requires.proper;
       room = omega arith;
-      small = subst (All (Sized (most_slots * toll_limit))) (sym front) (forward_small g.C.Curve.ground g.C.Curve.steps g.met.C.Curve.rising g.met.C.Curve.bounded slots c.requires.proper c.requires.few);
+      small = subst (AllByRecursion (Sized (most_slots * toll_limit))) (sym front) (forward_small g.C.Curve.ground g.C.Curve.steps g.met.C.Curve.rising g.met.C.Curve.bounded slots c.requires.proper c.requires.few);
     }
 
 pub returns : goal.returns

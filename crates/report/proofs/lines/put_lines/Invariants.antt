@@ -1,5 +1,5 @@
 use Rattle.std.proofs.Common.{◌≡◌, ◌≤◌, ◌++◌, drop, None, string_bytes}
-use Rattle.std.specs.List.{AllByRecursion as All}
+use Rattle.std.specs.List.{AllByRecursion}
 use Rattle.curve.specs.Limits.{top}
 use Rattle.slots.specs.SlotTerms.{day_terms}
 use Rattle.report.specs.Reports.{slot_lines}
@@ -10,4 +10,4 @@ abbrev pub invariant-loop-i : goal.invariant-loop-i
 invariant-loop-i g l =
     (string_bytes l.text ++ slot_lines l.i (day_terms g.C.Curve.ground g.C.Curve.steps (drop l.i l.slots)) l.before (drop l.following.next l.following.levels.now)
     ≡ string_bytes l.initial.text ++ slot_lines 0 (day_terms g.C.Curve.ground g.C.Curve.steps l.slots) None (drop l.initial.following.next l.initial.following.levels.now))
-    × All (λ x. x ≤ top) (drop l.following.next l.following.levels.now)
+    × AllByRecursion (λ x. x ≤ top) (drop l.following.next l.following.levels.now)

@@ -1,6 +1,6 @@
 use Rattle.std.proofs.Common.{sym, ◌∙◌, subst, arith}
 use Rattle.std.proofs.lemmas.Int.{ints}
-use Rattle.std.specs.List.{AllByRecursion as All}
+use Rattle.std.specs.List.{AllByRecursion}
 use Rattle.slots.proofs.Earliest.{after_none, earliest_more, earliest_here, earliest_end}
 use Rattle.slots.proofs.Stands.{stands_more, stands_over}
 use Rattle.slots.proofs.check.first_break.Goals as goal
@@ -11,7 +11,7 @@ loop-i-init g c = (after_none _, c.requires.given)
 pub holds-requires : goal.holds-requires
 holds-requires g c =
     let more = stands_more _ _ _ c.args.slots.now c.args.levels.now c.args.leans.now c.requires.one_each c.loop-i-test.true c.index-slots-i.is (omega (arith, ints)) (omega (arith, ints)) in
-    (subst (All g.R.Rule.given) more c.loop-i.invariant.1).0
+    (subst (AllByRecursion g.R.Rule.given) more c.loop-i.invariant.1).0
 
 pub returns-then-not-holds : goal.returns-then-not-holds
 returns-then-not-holds g c =
@@ -22,7 +22,7 @@ pub loop-i-preserved : goal.loop-i-preserved
 loop-i-preserved g c =
     let more = stands_more _ _ _ c.args.slots.now c.args.levels.now c.args.leans.now c.requires.one_each c.loop-i-test.true c.index-slots-i.is (omega (arith, ints)) (omega (arith, ints)) in (
       c.loop-i.invariant.0 ∙ earliest_more _ _ _ _ c.loop-i.i more (sym c.if-not-holds.ensures),
-      (subst (All g.R.Rule.given) more c.loop-i.invariant.1).1,
+      (subst (AllByRecursion g.R.Rule.given) more c.loop-i.invariant.1).1,
     )
 
 pub returns : goal.returns

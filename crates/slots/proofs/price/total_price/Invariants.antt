@@ -1,7 +1,7 @@
 use Rattle.std.proofs.Common.{◌≡◌, ◌≤◌, length, ◌+ℤ◌, None}
 use Rattle.std.specs.Slice.Iter.{iter_rest}
 use Rattle.std.specs.Iterator.Adapters.{zip_first, zip_second}
-use Rattle.std.specs.List.{AllByRecursion as All}
+use Rattle.std.specs.List.{AllByRecursion}
 use Rattle.curve.specs.Limits.{top}
 use Rattle.optimum.specs.Plans.{price}
 use Rattle.slots.specs.SlotTerms.{day_terms}
@@ -14,4 +14,4 @@ invariant-loop-slot g l =
     let levels = iter_rest (zip_second l.slot-iterator) in
     (l.total +ℤ price l.before (day_terms g.C.Curve.ground g.C.Curve.steps slots) levels ≡ price None (day_terms g.C.Curve.ground g.C.Curve.steps l.slots) l.levels)
     × Room l.total (length slots)
-    × All (λ x. x ≤ top) levels
+    × AllByRecursion (λ x. x ≤ top) levels

@@ -1,0 +1,4 @@
+pub mod Planned
+pub mod Promised
+pub mod Runs
+pub mod Tellings

@@ -1,0 +1,2 @@
+pub mod PlainRun
+pub mod Promise
