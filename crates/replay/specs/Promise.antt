@@ -6,7 +6,7 @@ use Rattle.optimum.specs.Coldest.{Coldest}
 use Rattle.day.specs.PlainDay.{PlainDay}
 use Rattle.day.specs.View.{empty_day}
 use Rattle.slots.specs.declared.slot.Slot.{Slot}
-use Rattle.replay.specs.PlainRun.{Told, done, cost, planned, refused, told_by, after, terms, answer}
+use Rattle.replay.specs.PlainRun.{done, told_by, after, terms, answer}
 use Rattle.replay.specs.declared.call.Answer.{Answer}
 use Rattle.replay.specs.declared.call.Answer.TheVariants.{Done, Cost, Planned, Refused}
 use Rattle.replay.specs.declared.call.Call.{Call}

@@ -11,7 +11,7 @@ returns-in-Add g c =
     let day = c.args.day.now in
     let made = c.add.ensures in
     let refusal = add_refusal (plain day) c.in-Add.slot in
-    let telling = edit_told (terms g.C.Curve.ground g.C.Curve.steps (plain day)) refusal c.edit-answer.ensures made.answer in
+    let telling = edit_told (terms g.C.Curve.ground g.C.Curve.steps (plain day)) refusal c.edit_answer.ensures made.answer in
     let count = sym (length-take-le day.count day.slots.now day.stored) in
     let memory = made.memory ∙ ap (λ (n : ℕ). wrote refusal (memory_of day) n c.in-Add.slot) count in
     rw c.in-Add.is (record { day = made.day; memory = memory; unmade = tt; lender = made.lender; answer = telling.0; leaning = telling.1 })
@@ -21,5 +21,5 @@ returns-in-Replace g c =
     let day = plain c.args.day.now in
     let made = c.replace.ensures in
     let refusal = replace_refusal day c.in-Replace.place c.in-Replace.slot in
-    let telling = edit_told (terms g.C.Curve.ground g.C.Curve.steps day) refusal c.edit-answer-in-Replace.ensures made.answer in
+    let telling = edit_told (terms g.C.Curve.ground g.C.Curve.steps day) refusal c.edit_answer-in-Replace.ensures made.answer in
     rw c.in-Replace.is (record { day = made.day; memory = made.memory; unmade = tt; lender = made.lender; answer = telling.0; leaning = telling.1 })

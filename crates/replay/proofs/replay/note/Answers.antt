@@ -2,4 +2,4 @@ use Rattle.std.proofs.Common.{refl, ◌∙◌}
 use Rattle.replay.proofs.replay.note.Goals as goal
 
 pub returns : goal.returns
-returns g c = (record { answer = c.args.answer; slots = c.in-ok-slots.slots }, c.in-ok-push.ensures.items, refl, c.in-ok-slots.ensures.items ∙ c.slots.ensures)
+returns g c = (record { answer = c.args.answer; slots = c.in_ok-slots.slots }, c.in_ok-push.ensures.items, refl, c.in_ok-slots.ensures.items ∙ c.slots.ensures)

@@ -11,13 +11,13 @@ use Rattle.replay.proofs.replay.plan_answer.Goals.{After-plan}
 -- each buffer is as long as was asked, and the slots are as many as the day counts
 as_asked :
     (g : given.Over) (c : After-plan g) →
-    plan_refusal c.args.day.now.count (length c.deref-mut.result.now) (length c.deref-mut-2.result.now) (length c.deref-mut-3.result.now) (length c.deref-mut-4.result.now)
+    plan_refusal c.args.day.now.count (length c.deref_mut.result.now) (length c.deref_mut-2.result.now) (length c.deref_mut-3.result.now) (length c.deref_mut-4.result.now)
     ≡ plan_refusal (length (plain c.args.day.now).slots) c.args.buffers.levels c.args.buffers.leans c.args.buffers.table c.args.buffers.marks
 as_asked g c =
-    let levels = c.deref-mut.ensures.len ∙ c.in-ok-levels.ensures.len in
-    let leans = c.deref-mut-2.ensures.len ∙ c.in-ok-leans.ensures.len in
-    let table = c.deref-mut-3.ensures.len ∙ c.in-ok-table.ensures.len in
-    let marks = c.deref-mut-4.ensures.len ∙ c.in-ok-marks.ensures.len in
+    let levels = c.deref_mut.ensures.len ∙ c.in_ok-levels.ensures.len in
+    let leans = c.deref_mut-2.ensures.len ∙ c.in_ok-leans.ensures.len in
+    let table = c.deref_mut-3.ensures.len ∙ c.in_ok-table.ensures.len in
+    let marks = c.deref_mut-4.ensures.len ∙ c.in_ok-marks.ensures.len in
     let count = length-take-le c.args.day.now.count c.args.day.now.slots.now c.args.day.now.stored in
     cc
 
@@ -26,8 +26,8 @@ returns-in-Ok g c =
     let day = c.args.day.now in
     let answered = c.in-Ok.ensures in
     let count = ap length c.slots-count.ensures in
-    let levels = c.truncate.ensures.items ∙ ap₂ take count (with_items_is c.in-ok-levels.levels c.plan.new.levels (c.plan.auto.levels ∙ c.deref-mut.ensures.len)) in
-    let leans = c.truncate-in-Ok.ensures.items ∙ ap₂ take count (with_items_is c.in-ok-leans.leans c.plan.new.leans (c.plan.auto.leans ∙ c.deref-mut-2.ensures.len)) in
+    let levels = c.truncate.ensures.items ∙ ap₂ take count (with_items_is c.in_ok-levels.levels c.plan.new.levels (c.plan.auto.levels ∙ c.deref_mut.ensures.len)) in
+    let leans = c.truncate-in-Ok.ensures.items ∙ ap₂ take count (with_items_is c.in_ok-leans.leans c.plan.new.leans (c.plan.auto.leans ∙ c.deref_mut-2.ensures.len)) in
     let asked = as_asked g (goal.at.returns-in-Ok g c).After-plan in
     let made = plan_answered g.C.Curve.ground g.C.Curve.steps (plain day) g.met.C.Curve.rising day.proper c.args.buffers _ c.in-Ok.cost _ _ _ _ _ _ asked answered.answer answered.levels answered.leans levels leans in
     let fits : SFits w64 c.in-Ok.cost = search rules in

@@ -19,19 +19,19 @@ ran_next g c =
     let made = c.in-Ok.ensures in
     ran_more (memory_of c.open-day.result) c.args.calls.now c.loop-call.call-index c.call-item.result (omega arith) c.call-item.is (plain c.loop-call.day) (memory_of c.loop-call.day) c.loop-call.invariant.2 (plain c.make.new.day) (memory_of c.make.new.day) made.day made.memory
 
-pub returns-in-default : goal.returns-in-default
-returns-in-default g c =
-    let unmade = c.in-default.ensures.unmade in
+pub returns-in_default : goal.returns-in_default
+returns-in_default g c =
+    let unmade = c.in_default.ensures.unmade in
     let opened = c.open-day.ensures.memory in
     let held : memory_of c.make.new.day ≡ memory_after_all (empty_day c.args.memory.now) c.args.memory.now (take c.loop-call.made c.args.calls.now) = cc in
     record { promise = tt; memory = rw (sym held) (search rules) }
 
-pub overflow-add-made : goal.overflow-add-made
-overflow-add-made g c = omega arith
+pub overflow_add-made : goal.overflow_add-made
+overflow_add-made g c = omega arith
 
-pub returns-in-default-note : goal.returns-in-default-note
-returns-in-default-note g c =
-    let next = (ran_next g (goal.at.returns-in-default-note g c).In-Ok).held_is in
+pub returns-in_default-note : goal.returns-in_default-note
+returns-in_default-note g c =
+    let next = (ran_next g (goal.at.returns-in_default-note g c).In-Ok).held_is in
     let opened = c.open-day.ensures.memory in
     let held : memory_of c.make.new.day ≡ memory_after_all (empty_day c.args.memory.now) c.args.memory.now (take (c.loop-call.made + 1) c.args.calls.now) = cc in
     record { promise = tt; memory = rw (sym held) (search rules) }

@@ -10,6 +10,6 @@ invariant-loop-call g l =
     let memory = memory_of l.initial.day in
     let calls = take l.call-index l.calls in
     (l.made ≡ l.call-index)
-    × (l.day.slots.name ≡ l.initial.day.slots.name)
+    × (l.day.slots.ghost_name ≡ l.initial.day.slots.ghost_name)
     × Ran memory calls (plain l.day) (memory_of l.day)
     × Follows g.C.Curve.ground g.C.Curve.steps (empty_day memory) calls (vec_items l.moments)
