@@ -6,8 +6,14 @@ work=$(mktemp -d)
 trap 'rm -rf "$work"' EXIT
 failed=0
 
-# The proved forms of the crates lie in target/rlib after this.
-(cd "$root" && rt check day) >"$work/day.out" 2>&1 || {
+# A repository of its own, with the crates that the programs stand on.
+libraries="$(sed -n 's/^day: //p' "$root/crates.txt") day"
+mkdir "$work/crates"
+for library in $libraries; do
+    cp -R "$root/crates/$library" "$work/crates/$library"
+    grep "^$library:" "$root/crates.txt" >>"$work/crates.txt"
+done
+(cd "$work/crates/day" && rt check) >"$work/day.out" 2>&1 || {
     tail -n 20 "$work/day.out"
     echo "failed: day is not proved"
     exit 1
@@ -15,14 +21,10 @@ failed=0
 
 # Checks one program as a crate of its own, over the proved crates.
 checked() { # NAME
-    mkdir -p "$work/$1/src"
-    cp "$root/refused/$1.rt.txt" "$work/$1/src/main.rt"
-    rt check "$work/$1" -L "dependency=$root/target/rlib" \
-        --extern "curve=$root/target/rlib/curve.rlib" \
-        --extern "optimum=$root/target/rlib/optimum.rlib" \
-        --extern "slots=$root/target/rlib/slots.rlib" \
-        --extern "planner=$root/target/rlib/planner.rlib" \
-        --extern "day=$root/target/rlib/day.rlib" >"$work/$1.out" 2>&1
+    mkdir -p "$work/crates/$1/src"
+    cp "$root/refused/$1.rt.txt" "$work/crates/$1/src/main.rt"
+    echo "$1: $libraries anyhow" >>"$work/crates.txt"
+    (cd "$work/crates/$1" && rt check) >"$work/$1.out" 2>&1
 }
 
 # Every error has to be of the kind and at the words that are meant.
