@@ -1,17 +1,21 @@
-.PHONY: run test examples
+.PHONY: run sheet test examples
 
-# Builds the program and runs it on a sheet of three slots.
+# Builds the program and runs it.
 run:
-	@rt check tiemsker > /dev/null
-	@target/bin/tiemsker < examples/three_squares.sheet
+	@cd crates/tiemsker && rt run 2>/dev/null
 
-# Proves everything from nothing, tries the must-fail edits and the refused programs, and runs the programs and tests.
+# Builds the program that reads a sheet and runs it on a sheet of three slots.
+sheet:
+	@cd crates/tiemsker_sheet && rt run >/dev/null 2>&1
+	@crates/tiemsker_sheet/out/tiemsker_sheet < examples/three_squares.sheet
+
+# Tries the refused programs, proves everything, tries the must-fail edits, and runs the programs and tests.
 test:
-	@rt check day > /dev/null
 	@bash refused/run.sh
-	@rt ci
+	@bash tools/gate.sh
 
 # Builds the programs and compares what they print on every example.
 examples:
-	@rt check tiemsker journal > /dev/null
+	@cd crates/tiemsker_sheet && rt run >/dev/null 2>&1
+	@cd crates/journal && rt run >/dev/null 2>&1
 	@sh examples/run.sh

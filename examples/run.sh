@@ -1,11 +1,11 @@
 #!/bin/sh
-# Runs the proved programs on each example, and compares what they print. Build them first: rt check tiemsker journal
-# A sheet (.sheet) is planned by tiemsker, which prints its .plan. A journal is replayed by journal:
+# Runs the proved programs on each example, and compares what they print. Build them first: make examples
+# A sheet (.sheet) is planned by tiemsker_sheet, which prints its .plan. A journal is replayed by journal:
 # one with an .out prints that and ends well; one with a .fault says that on standard error, prints nothing and ends with status 1.
 cd "$(dirname "$0")/.." || exit 2
-journal=target/bin/journal
-tiemsker=target/bin/tiemsker
-[ -x "$journal" ] && [ -x "$tiemsker" ] || { echo "not built: run rt check tiemsker journal" >&2; exit 2; }
+journal=crates/journal/out/journal
+tiemsker=crates/tiemsker_sheet/out/tiemsker_sheet
+[ -x "$journal" ] && [ -x "$tiemsker" ] || { echo "not built: run make examples" >&2; exit 2; }
 said=$(mktemp -d) || exit 2
 trap 'rm -rf "$said"' EXIT
 tried=0
