@@ -16,17 +16,17 @@ never_fall before [] = true
 never_fall before (step ∷ steps) = int_le before step && held_by rate_limit step && never_fall step steps
 
 -- the rules in their order, with the numbers of the knees that count
-abbrev pub knees_rules : ℤ → ℤ → ℕ → List ℕ → List ℤ → List (Bool × CurveFault)
-knees_rules base first count levels steps =
+abbrev pub knees_rules : (ground first : ℤ) (count : ℕ) (levels : List ℕ) (steps : List ℤ) → List (Bool × CurveFault)
+knees_rules ground first count levels steps =
     (nat_le 1 count && nat_le count knee_limit, KneeCount)
     ∷ (rise_from 0 (take count levels), KneeLevels)
     ∷ (held_by rate_limit first && never_fall first (take count steps), KneeSteps)
-    ∷ (held_by ground_limit base, Ground)
+    ∷ (held_by ground_limit ground, Ground)
     ∷ []
 
 -- why it cannot be made
-abbrev pub knees_fault : ℤ → ℤ → ℕ → List ℕ → List ℤ → Option CurveFault
-knees_fault base first count levels steps = broken (knees_rules base first count levels steps)
+abbrev pub knees_fault : (ground first : ℤ) (count : ℕ) (levels : List ℕ) (steps : List ℤ) → Option CurveFault
+knees_fault ground first count levels steps = broken (knees_rules ground first count levels steps)
 
 -- the step that holds at v: that of the last knee at or below v, and before any knee the first step
 abbrev pub step_at : ℕ → ℤ → List ℕ → List ℤ → ℤ

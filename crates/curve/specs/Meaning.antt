@@ -7,6 +7,6 @@ climb f zero = pos 0
 climb f (suc n) = climb f n +ℤ f n
 
 -- the cost at a level: the ground and all the steps below that level
-unfoldable pub cost : ℤ → (ℕ → ℤ) → ℕ → ℤ
+unfoldable pub cost : (ground : ℤ) (steps : ℕ → ℤ) (level : ℕ) → ℤ
 unfolding climb
-cost base steps level = base +ℤ climb steps level
+cost ground steps level = ground +ℤ climb steps level

@@ -58,8 +58,8 @@ exact_steps s t e v h = hold_same step_limit (s v +ℤ t v) ((all_fit s t).0 e v
 
 -- the tests as the program makes them: once ground and coldest step fit, the warmest decides
 pub warmest_decides : (g h : ℤ) (s t : ℕ → ℤ) → Rising s → Rising t → held_by ground_limit (g +ℤ h) ≡ true → low_fits s t ≡ true → sums_fit g s h t ≡ high_fits s t
-warmest_decides g h s t rs rt base low = rw (base, two_steps_decide s t rs rt, low)
+warmest_decides g h s t rs rt held low = rw (held, two_steps_decide s t rs rt, low)
 
 -- and where the coldest does not fit, not all do
 pub coldest_decides : (g h : ℤ) (s t : ℕ → ℤ) → Rising s → Rising t → held_by ground_limit (g +ℤ h) ≡ true → low_fits s t ≡ false → sums_fit g s h t ≡ false
-coldest_decides g h s t rs rt base low = rw (base, two_steps_decide s t rs rt, low)
+coldest_decides g h s t rs rt held low = rw (held, two_steps_decide s t rs rt, low)

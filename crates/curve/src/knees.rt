@@ -13,6 +13,7 @@ use crate::limits::{GROUND_LIMIT, KNEE_LIMIT, KNEE_STEP_LIMIT, LAST_STEP, held_b
 
 #[derive(Clone, Copy)]
 pub struct Knees {
+    // The ground.
     base: i64,
     first: i32,
     count: usize,

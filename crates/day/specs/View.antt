@@ -17,8 +17,8 @@ abbrev pub plain : {C : Type 0} → Day C → PlainDay C
 plain d = record { room = room_of d.slots.now; slots = take d.count d.slots.now }
 
 -- the terms of its slots, with what their curves mean
-abbrev pub terms_of : {C : Type 0} → (C → ℤ) → (C → ℕ → ℤ) → Day C → List Terms
-terms_of base steps d = day_terms base steps (plain d).slots
+abbrev pub terms_of : {C : Type 0} → (ground : C → ℤ) (steps : C → ℕ → ℤ) → Day C → List Terms
+terms_of ground steps d = day_terms ground steps (plain d).slots
 
 -- what the lent memory holds
 abbrev pub memory_of : {C : Type 0} → Day C → List (Slot C)

@@ -1,19 +1,15 @@
 -- How large the leans of the two passes can be, so that a program can rule out overflow.
-use Rattle.std.proofs.Common.{◌≡◌, ℕ, ◌+◌, ◌-◌, ◌*◌, ◌<◌, ◌≤◌, Bool, true, ◌&&◌, leb, List, [], ◌∷◌, ◌++◌, length, take, drop, ℤ, pos, neg_ℤ, ◌≤ℤ◌, Some, None, Option, arith}
+use Rattle.std.proofs.Common.{◌≡◌, ℕ, ◌+◌, ◌-◌, ◌*◌, ◌<◌, ◌≤◌, true, List, [], ◌∷◌, ◌++◌, length, take, drop, ℤ, pos, neg_ℤ, ◌≤ℤ◌, Some, None, Option, arith}
 use native.Mathlib.Decide.{dec_lt}
 use Rattle.std.specs.List.{AllByRecursion}
 use Rattle.std.proofs.ByRecursion.{All-weaker, All-append, All-take, All-drop}
 use Rattle.std.proofs.lemmas.Int.{ints, clamps}
-use Rattle.curve.specs.Limits.{top, held_by}
+use Rattle.curve.specs.Limits.{top}
 use Rattle.optimum.specs.Plans.{Terms, Within}
-use Rattle.optimum.specs.Leans.{Obeys, Stand, next_lean, bounded}
+use Rattle.optimum.specs.Leans.{Obeys, next_lean, bounded}
 use Rattle.optimum.proofs.Stands.{stand, obeys_first}
 use Rattle.optimum.proofs.LeanPasses.{forward_lean, forward_rise, forward_fall, forward_lowest, forward_stay, forward_from, forward_with, forward}
 use Rattle.optimum.proofs.LeanPasses.{backward_lean, backward_raised, backward_top, backward}
-
--- the levels of a slot are levels, and its lean and the next lie within the largest toll, so that they can be subtracted
-abbrev pub small : ℕ → Stand → Bool
-small largest s = (leb s.level top && leb s.terms.high top) && (held_by largest s.lean && held_by largest s.next)
 
 -- z lies from minus n to n
 pub record Sized (n : ℕ) (z : ℤ) : Type 0 where

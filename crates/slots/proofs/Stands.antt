@@ -11,8 +11,7 @@ use Rattle.slots.specs.Judging.{inside}
 use Rattle.slots.specs.Limits.{toll_limit}
 use Rattle.slots.specs.SlotTerms.{slot_terms, day_terms}
 use Rattle.slots.specs.Slots.{proper, all_proper}
-use Rattle.optimum.proofs.LeanSizes.{small}
-use Rattle.slots.specs.Stands.{slot_stand}
+use Rattle.slots.specs.Stands.{slot_stand, small}
 use Rattle.slots.specs.declared.slot.Slot.{Slot}
 
 -- the first lean of those from a place on
@@ -80,7 +79,7 @@ module _ {C : Type 0} (ground : C → ℤ) (steps : C → ℕ → ℤ) where
       length levels ≡ length slots → length leans ≡ length slots → all_proper slots ≡ true →
       AllByRecursion (λ p. inside p ≡ true) (zip (day_terms ground steps slots) levels) →
       AllByRecursion (λ s. bounded s ≡ true) (stands before (day_terms ground steps slots) levels leans) →
-      AllByRecursion (λ s. small toll_limit s ≡ true) (stands before (day_terms ground steps slots) levels leans)
+      AllByRecursion (λ s. small s ≡ true) (stands before (day_terms ground steps slots) levels leans)
   unfolding stands
   stands_small before [] levels leans levels-each leans-each kept insides within = tt
   stands_small before (s ∷ slots) [] leans levels-each leans-each kept insides within = tt

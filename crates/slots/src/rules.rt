@@ -2,9 +2,7 @@
 ghost use Rattle.std.specs.Prelude.{◌≡◌, ◌-◌, ◌≤◌, Bool, true, ◌||◌, int_le, nat_le};
 ghost use Rattle.curve.specs.Limits.{top};
 ghost use Rattle.optimum.specs.Leans.{Stand, bounded, follows_move, at_rest};
-ghost use Rattle.optimum.proofs.LeanSizes.{small};
-ghost use Rattle.slots.specs.Limits.{toll_limit};
-ghost use Rattle.slots.specs.Stands.{slot_stand};
+ghost use Rattle.slots.specs.Stands.{slot_stand, small};
 
 use crate::slot::Slot;
 use curve::Curve;
@@ -94,7 +92,7 @@ pub(crate) struct AtRest;
 impl Rule for AtRest {
     ghost test = { at_rest };
 
-    ghost given = { λ s. small toll_limit s ≡ true };
+    ghost given = { λ s. small s ≡ true };
 
     fn holds<C: Curve>(
         slot: &Slot<C>,

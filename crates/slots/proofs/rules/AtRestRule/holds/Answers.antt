@@ -2,13 +2,11 @@ use Rattle.std.proofs.Common.{◌≡◌, true, ◌-ℤ◌, arith, w64, SFits, ru
 use Rattle.std.proofs.lemmas.Int.{ints, to_z-of_z}
 use Rattle.std.proofs.lemmas.Bool.Decides.{nat_tests}
 use Rattle.optimum.specs.Leans.{Stand, at_rest}
-use Rattle.optimum.proofs.LeanSizes.{small}
-use Rattle.slots.specs.Limits.{toll_limit}
-use Rattle.slots.specs.Stands.{slot_stand}
+use Rattle.slots.specs.Stands.{slot_stand, small}
 use Rattle.slots.proofs.rules.AtRestRule.holds.Goals as goal
 
 -- leans within the largest toll can be subtracted
-difference_fits : (s : Stand) → small toll_limit s ≡ true → SFits w64 (s.next -ℤ s.lean)
+difference_fits : (s : Stand) → small s ≡ true → SFits w64 (s.next -ℤ s.lean)
 difference_fits s within = grind (arith, ints, nat_tests)
 
 pub returns-then-rests_upward : goal.returns-then-rests_upward
