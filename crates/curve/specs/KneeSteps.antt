@@ -16,7 +16,7 @@ never_fall before [] = true
 never_fall before (step ∷ steps) = int_le before step && held_by rate_limit step && never_fall step steps
 
 -- the rules in their order, with the numbers of the knees that count
-abbrev pub knees_rules : (ground first : ℤ) (count : ℕ) (levels : List ℕ) (steps : List ℤ) → List (Bool × CurveFault)
+abbrev pub knees_rules : (ground : ℤ) (first : ℤ) (count : ℕ) (levels : List ℕ) (steps : List ℤ) → List (Bool × CurveFault)
 knees_rules ground first count levels steps =
     (nat_le 1 count && nat_le count knee_limit, KneeCount)
     ∷ (rise_from 0 (take count levels), KneeLevels)
@@ -25,7 +25,7 @@ knees_rules ground first count levels steps =
     ∷ []
 
 -- why it cannot be made
-abbrev pub knees_fault : (ground first : ℤ) (count : ℕ) (levels : List ℕ) (steps : List ℤ) → Option CurveFault
+abbrev pub knees_fault : (ground : ℤ) (first : ℤ) (count : ℕ) (levels : List ℕ) (steps : List ℤ) → Option CurveFault
 knees_fault ground first count levels steps = broken (knees_rules ground first count levels steps)
 
 -- the step that holds at v: that of the last knee at or below v, and before any knee the first step
