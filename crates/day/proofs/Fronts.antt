@@ -28,8 +28,8 @@ module _ {C : Type 0} where
   proper_set (y ∷ ys) (suc i) x h p = both (and_left (bounds_hold y && tolls_hold y) (all_proper ys) h) (proper_set ys i x (and_right (bounds_hold y && tolls_hold y) (all_proper ys) h) p)
 
   -- a write among the first slots is a write of the first slots
-  pub take-set : (n i : ℕ) (xs : List (Slot C)) (x : Slot C) → take n (set xs i x) ≡ set (take n xs) i x
-  take-set zero i xs x = refl
-  take-set (suc n) i [] x = refl
-  take-set (suc n) zero (y ∷ ys) x = refl
-  take-set (suc n) (suc i) (y ∷ ys) x = ap (λ (zs : List (Slot C)). y ∷ zs) (take-set n i ys x)
+  pub take_set : (n i : ℕ) (xs : List (Slot C)) (x : Slot C) → take n (set xs i x) ≡ set (take n xs) i x
+  take_set zero i xs x = refl
+  take_set (suc n) i [] x = refl
+  take_set (suc n) zero (y ∷ ys) x = refl
+  take_set (suc n) (suc i) (y ∷ ys) x = ap (λ (zs : List (Slot C)). y ∷ zs) (take_set n i ys x)

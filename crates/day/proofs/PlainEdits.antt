@@ -8,7 +8,7 @@ use Rattle.slots.specs.Limits.{most_slots}
 use Rattle.day.specs.PlainDay.{PlainDay}
 use Rattle.day.specs.View.{room_of}
 use Rattle.slots.specs.declared.slot.Slot.{Slot}
-use Rattle.day.proofs.Fronts.{take-set}
+use Rattle.day.proofs.Fronts.{take_set}
 
 module _ {C : Type 0} where
   -- a plain day over the first slots of a memory
@@ -27,7 +27,7 @@ module _ {C : Type 0} where
 
   pub replace_made : (memory : List (Slot C)) (count i : ℕ) (s : Slot C) → over (set memory i s) count ≡ record { room = room_of memory; slots = set (take count memory) i s }
   replace_made memory count i s =
-      ap₂ (λ (r : ℕ) (slots : List (Slot C)). record { room = r; slots = slots }) (ap (min most_slots) (length-set memory i s)) (take-set count i memory s)
+      ap₂ (λ (r : ℕ) (slots : List (Slot C)). record { room = r; slots = slots }) (ap (min most_slots) (length-set memory i s)) (take_set count i memory s)
 
   pub drop_accepted : (memory : List (Slot C)) (count : ℕ) → count ≤ length memory → 0 < count → drop_refusal (over memory count) ≡ None
   drop_accepted memory count stored some = let n = length-take-le count memory stored in grind (arith, nat_tests)

@@ -79,7 +79,7 @@ order_same : (v : ℕ) (list : List (List ℕ)) → ColdToWarm list → ColdToWa
 unfolding NoWarmer
 order_same v [] order = tt
 order_same v (xs ∷ list) order =
-    let warmer = All-weaker (Warmer xs) (λ ys. Warmer (v ∷ xs) (v ∷ ys)) (λ ys h no-warmer. h no-warmer.1) list order.0 in
+    let warmer = All-weaker (Warmer xs) (λ ys. Warmer (v ∷ xs) (v ∷ ys)) (λ ys h no_warmer. h no_warmer.1) list order.0 in
     (All-map (Warmer (v ∷ xs)) (λ ys. v ∷ ys) list warmer, order_same v list order.1)
 
 -- what holds of everything holds of each element
@@ -92,7 +92,7 @@ behind_warmer : (low n : ℕ) (others : List (List ℕ)) (xs : List ℕ) → All
 unfolding NoWarmer
 behind_warmer low n others xs =
     behind_each (Among (suc low) n) (Warmer (low ∷ xs)) (levels (suc low) n) others
-    (λ v among. all_any (λ ys. Warmer (low ∷ xs) (v ∷ ys)) (λ ys no-warmer. omega (arith, among.0, no-warmer.0)) others)
+    (λ v among. all_any (λ ys. Warmer (low ∷ xs) (v ∷ ys)) (λ ys no_warmer. omega (arith, among.0, no_warmer.0)) others)
     (levels_among (suc low) n)
 
 -- rising levels in front of a list from cold to warm leave the order

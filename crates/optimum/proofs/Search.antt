@@ -67,8 +67,8 @@ module _ (f : List ℕ → ℤ) where
 
   -- a later plan that costs as little is warmer than the one that is found
   least_later : (best xs : List ℕ) (others : List (List ℕ)) → f best ≤ℤ f xs → Warmer best xs → Alone f (first_least f best others) xs
-  least_later best xs others more warmer least no-warmer =
-      absurd (warmer (subst (NoWarmer xs) (least_stays best others (omega (arith, ints))) no-warmer))
+  least_later best xs others more warmer least no_warmer =
+      absurd (warmer (subst (NoWarmer xs) (least_stays best others (omega (arith, ints))) no_warmer))
 
   -- so, cold to warm, no other plan that costs as little is nowhere warmer than the one that is found
   least_alone : (best : List ℕ) (others : List (List ℕ)) → ColdToWarm (best ∷ others) → AllByRecursion (Alone f (first_least f best others)) (best ∷ others)

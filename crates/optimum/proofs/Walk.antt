@@ -42,19 +42,19 @@ walk_least message (t ∷ ts) monotone convex opens (y ∷ ys) within =
 -- a plan that is nowhere warmer begins no warmer
 no_warmer_first : (xs ys : List ℕ) → NoWarmer xs ys → first_level xs ≤ first_level ys
 unfolding NoWarmer first_level
-no_warmer_first [] [] no-warmer = omega arith
-no_warmer_first [] (y ∷ ys) no-warmer = absurd no-warmer
-no_warmer_first (x ∷ xs) [] no-warmer = absurd no-warmer
-no_warmer_first (x ∷ xs) (y ∷ ys) no-warmer = no-warmer.0
+no_warmer_first [] [] no_warmer = omega arith
+no_warmer_first [] (y ∷ ys) no_warmer = absurd no_warmer
+no_warmer_first (x ∷ xs) [] no_warmer = absurd no_warmer
+no_warmer_first (x ∷ xs) (y ∷ ys) no_warmer = no_warmer.0
 
 -- and the walk is nowhere warmer than a plan that costs as little
 pub walk_coldest : (message : ℕ → ℤ) (ts : List Terms) → Monotone message → AllByRecursion Convex ts → AllByRecursion Open ts →
     (ys : List ℕ) → Within ts ys → price_under message ts ys ≤ℤ price_under message ts (walk message ts) → NoWarmer (walk message ts) ys
 unfolding walk Within NoWarmer held
-walk_coldest message [] monotone convex opens [] within as-little = tt
-walk_coldest message [] monotone convex opens (y ∷ ys) within as-little = absurd within
-walk_coldest message (t ∷ ts) monotone convex opens [] within as-little = absurd within
-walk_coldest message (t ∷ ts) monotone convex opens (y ∷ ys) within as-little =
+walk_coldest message [] monotone convex opens [] within as_little = tt
+walk_coldest message [] monotone convex opens (y ∷ ys) within as_little = absurd within
+walk_coldest message (t ∷ ts) monotone convex opens [] within as_little = absurd within
+walk_coldest message (t ∷ ts) monotone convex opens (y ∷ ys) within as_little =
     let next = next_message message t ts in
     let falls_not = next_monotone message t ts monotone convex.0 opens.0 in
     let same = price_under_same message t ts monotone convex.0 opens.0 (walk next ts) (walk_within next ts opens.1) in

@@ -2,7 +2,7 @@
 ghost use Rattle.std.specs.Prelude.{◌≡◌, ℕ, ◌+◌, ◌-◌, ◌*◌, ◌<◌, ◌≤◌, true, ◌&&◌, ltb, ◌++◌, length, get_or, drop, ℤ, pos, ◌+ℤ◌, neg_ℤ, ◌≤ℤ◌, if◌then◌else◌, nat_le, nat_lt, slice_index_or};
 ghost use Rattle.std.specs.Int.{int_max, int_min};
 ghost use Rattle.curve.specs.Limits.{last_step};
-ghost use Rattle.optimum.proofs.Marks.{Between, Holds, marks as marks-of};
+ghost use Rattle.optimum.proofs.Marks.{Between, Holds, marks as marks_of};
 ghost use Rattle.optimum.proofs.Sweep.{joined, first_from, threshold, passed, next_up, next_down};
 ghost use Rattle.slots.specs.Limits.{most_slots, toll_limit, table_length};
 ghost use Rattle.slots.specs.SlotTerms.{slot_terms, day_terms};
@@ -110,7 +110,7 @@ pub(crate) fn sweep<C: Curve>(slots: &[Slot<C>], table: &mut [i64], marks: &mut 
     requires proper { all_proper slots.now ≡ true }
     requires long { table_length ≤ length table.old }
     requires room { 2 * length slots.now ≤ length marks.old }
-    ensures { marks.new ≡ marks-of (λ _. pos 0) (day_terms C.Curve.ground C.Curve.steps slots.now) ++ drop (2 * length slots.now) marks.old }
+    ensures { marks.new ≡ marks_of (λ _. pos 0) (day_terms C.Curve.ground C.Curve.steps slots.now) ++ drop (2 * length slots.now) marks.old }
 {
     clear(table);
     for i in 0..slots.len() {

@@ -1,7 +1,7 @@
 // Replaying a run of calls on a new day, with the whole promise.
 ghost use Rattle.std.specs.Prelude.{◌≡◌, [], ◌∷◌, ◌++◌, IfOk, Ok, Err, OnErr};
 ghost use Rattle.day.specs.View.{plain, memory_of, empty_day};
-ghost use Rattle.replay.specs.PlainRun.{told_by, after, memory_after, memory_after_all, calls_made, terms, answer as plain-answer};
+ghost use Rattle.replay.specs.PlainRun.{told_by, after, memory_after, memory_after_all, calls_made, terms, answer as plain_answer};
 ghost use Rattle.replay.specs.Promise.{Leaning, Promise};
 
 use crate::call::{Answer, Buffers, Call, Moment, Unfinished};
@@ -48,7 +48,7 @@ fn plan_answer<C: Curve + Copy>(
     day: &Day<'_, C>,
     buffers: Buffers,
 ) -> Result<Answer, AllocError>
-    ensures answer { IfOk result (λ a. told_by a ≡ plain-answer C.Curve.ground C.Curve.steps (plain day.now) (Call.Plan buffers)) }
+    ensures answer { IfOk result (λ a. told_by a ≡ plain_answer C.Curve.ground C.Curve.steps (plain day.now) (Call.Plan buffers)) }
     ensures leaning { IfOk result (λ a. Leaning (terms C.Curve.ground C.Curve.steps (plain day.now)) a) }
 {
     let count = day.slots().len();
@@ -80,7 +80,7 @@ fn make<C: Curve + Copy>(
     ensures memory { memory_of day.new ≡ memory_after (plain day.old) (memory_of day.old) call.now }
     ensures unmade { OnErr result (memory_of day.new ≡ memory_of day.old) }
     ensures lender { day.new.slots.ghost_name ≡ day.old.slots.ghost_name }
-    ensures answer { IfOk result (λ a. told_by a ≡ plain-answer C.Curve.ground C.Curve.steps (plain day.old) call.now) }
+    ensures answer { IfOk result (λ a. told_by a ≡ plain_answer C.Curve.ground C.Curve.steps (plain day.old) call.now) }
     ensures leaning { IfOk result (λ a. Leaning (terms C.Curve.ground C.Curve.steps (plain day.old)) a) }
 {
     match *call {

@@ -62,14 +62,14 @@ module _ {C : Type 0} (ground : C → ℤ) (steps : C → ℕ → ℤ) (d : Plai
 
     -- a plan that was answered is told as the plain day tells it, and the leans beside it obey the rules
     pub plan_answered :
-        (buffers : Buffers) (refusal : Option Refusal) (cost : ℤ) (levels-before levels-after levels : List ℕ) (leans-before leans-after leans : List ℤ) →
-        refusal ≡ refusal_in buffers → Ok cost ≡ told refusal (price None ts best) → levels-after ≡ planned refusal best levels-before → Leaned refusal ts leans-before leans-after →
-        levels ≡ take count levels-after → leans ≡ take count leans-after →
+        (buffers : Buffers) (refusal : Option Refusal) (cost : ℤ) (levels_before levels_after levels : List ℕ) (leans_before leans_after leans : List ℤ) →
+        refusal ≡ refusal_in buffers → Ok cost ≡ told refusal (price None ts best) → levels_after ≡ planned refusal best levels_before → Leaned refusal ts leans_before leans_after →
+        levels ≡ take count levels_after → leans ≡ take count leans_after →
         (run.planned cost levels ≡ plan_told ground steps d buffers) × Obeys None ts levels leans
-    plan_answered buffers refusal cost levels-before levels-after levels leans-before leans-after leans same priced written leaned first-levels first-leans =
+    plan_answered buffers refusal cost levels_before levels_after levels leans_before leans_after leans same priced written leaned first_levels first_leans =
         let sure = accepted refusal cost (price None ts best) priced in
-        let found = levels_planned levels-before in
+        let found = levels_planned levels_before in
         let first : levels ≡ best = cc in
         let tells = telling buffers None (sym same ∙ sure.0) in
-        let obey = leans_obey leans-before leans-after (subst (λ (r : Option Refusal). Leaned r ts leans-before leans-after) sure.0 leaned) in
-        (cc, rw (first, first-leans) obey)
+        let obey = leans_obey leans_before leans_after (subst (λ (r : Option Refusal). Leaned r ts leans_before leans_after) sure.0 leaned) in
+        (cc, rw (first, first_leans) obey)

@@ -1,9 +1,9 @@
-// Replaying a run of calls on a new day, with the whole promise.
+// Replaying a run of calls on a new day, sheets among them, with the whole promise.
 ghost use Rattle.std.specs.Prelude.{◌≡◌, [], ◌∷◌, ◌++◌, IfOk, Ok, Err, OnErr};
 ghost use Rattle.curve.specs.WrittenCurves.{written_ground, written_steps};
 ghost use Rattle.day.specs.View.{plain, memory_of, empty_day};
 ghost use Rattle.sheet.specs.Sheets.{decoded};
-ghost use Rattle.runs.specs.PlainRun.{Lent, told_by, after, memory_after, memory_after_all, calls_made, terms, plan_told, answer as plain-answer};
+ghost use Rattle.runs.specs.PlainRun.{Lent, told_by, after, memory_after, memory_after_all, calls_made, terms, plan_told, answer as plain_answer};
 ghost use Rattle.runs.specs.Promise.{Leaning, Promise};
 
 use crate::call::{Answer, Buffers, Call, Moment, Unfinished};
@@ -12,7 +12,7 @@ use curve::written::Written;
 use day::check::CheckedPlan;
 use day::day::Day;
 use sheet::fault::SheetFault;
-use sheet::sheets::Sheets;
+use sheet::sheets::{Records, Sheets};
 use slots::refusal::Refusal;
 use slots::slot::Slot;
 use std::alloc::{AllocError, Global};
@@ -96,7 +96,7 @@ fn make<C: Curve + Copy, R: Sheets<C>>(
     ensures unmade { OnErr result (memory_of day.new ≡ memory_of day.old) }
     ensures spared { OnErr result (Lent call.now) }
     ensures lender { day.new.slots.ghost_name ≡ day.old.slots.ghost_name }
-    ensures answer { IfOk result (λ a. told_by a ≡ plain-answer C.Curve.ground C.Curve.steps R.Sheets.decoded (plain day.old) call.now) }
+    ensures answer { IfOk result (λ a. told_by a ≡ plain_answer C.Curve.ground C.Curve.steps R.Sheets.decoded (plain day.old) call.now) }
     ensures leaning { IfOk result (λ a. Leaning (terms C.Curve.ground C.Curve.steps (plain day.old)) a) }
 {
     match *call {
@@ -157,5 +157,5 @@ pub fn replay_written(
     ensures promise { IfOk result (λ moments. Promise written_ground written_steps decoded memory.old calls.now moments.items) }
     ensures memory { memory.new ≡ memory_after_all decoded (empty_day memory.old) memory.old (calls_made result calls.now) }
 {
-    replay::<Written, sheet::sheets::Records>(heap, memory, calls)
+    replay::<Written, Records>(heap, memory, calls)
 }

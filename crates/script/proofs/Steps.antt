@@ -25,4 +25,4 @@ spaced_done {X} write xs i line whole past h =
 
 -- a plan's line, put together piece by piece
 pub plan_line : (a b c levels e leans begun levelled parted line : List ℕ) → begun ≡ a ++ (b ++ c) → levelled ≡ begun ++ levels → parted ≡ levelled ++ e → line ≡ parted ++ leans → line ≡ a ++ (b ++ (c ++ (levels ++ (e ++ leans))))
-plan_line a b c levels e leans begun levelled parted line begins levels-next part-next leans-last = rw (leans-last, part-next, levels-next, begins) (simp append_assoc)
+plan_line a b c levels e leans begun levelled parted line begins levels_next part_next leans_last = rw (leans_last, part_next, levels_next, begins) (simp append_assoc)

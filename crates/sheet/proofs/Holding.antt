@@ -106,12 +106,12 @@ curve_holds (Square weight target) made =
     let heavy = leb-true weight weight_limit (and_right (leb 1 weight) (leb weight weight_limit) rules.0) in
     let warm = leb-true target top rules.1.0 in
     (omega arith, (omega arith, tt))
-curve_holds (Band cold warm cold-rate warm-rate) made =
-    let rules = all_pass ((leb cold warm && leb warm top, Edges) ∷ (leb cold-rate rate_limit && leb warm-rate rate_limit, Rate) ∷ []) made in
+curve_holds (Band cold warm cold_rate warm_rate) made =
+    let rules = all_pass ((leb cold warm && leb warm top, Edges) ∷ (leb cold_rate rate_limit && leb warm_rate rate_limit, Rate) ∷ []) made in
     let edges = leb-true cold warm (and_left (leb cold warm) (leb warm top) rules.0) in
     let high = leb-true warm top (and_right (leb cold warm) (leb warm top) rules.0) in
-    let one = leb-true cold-rate rate_limit (and_left (leb cold-rate rate_limit) (leb warm-rate rate_limit) rules.1.0) in
-    let two = leb-true warm-rate rate_limit (and_right (leb cold-rate rate_limit) (leb warm-rate rate_limit) rules.1.0) in
+    let one = leb-true cold_rate rate_limit (and_left (leb cold_rate rate_limit) (leb warm_rate rate_limit) rules.1.0) in
+    let two = leb-true warm_rate rate_limit (and_right (leb cold_rate rate_limit) (leb warm_rate rate_limit) rules.1.0) in
     (omega arith, (omega arith, (omega arith, (omega arith, tt))))
 curve_holds (Knees ground first count levels steps) made =
     let ks : Values (knee_fields knee_limit) = knee_values knee_limit 0 count levels steps in

@@ -39,7 +39,7 @@ either_way false b e = refl
 -- the knees past the count are written as zero
 kept_unused : (c : Written) → unused_zero (curve_of (kind_of_curve c) (curve_values c)) ≡ true
 kept_unused (Square weight target) = refl
-kept_unused (Band cold warm cold-rate warm-rate) = refl
+kept_unused (Band cold warm cold_rate warm_rate) = refl
 kept_unused (Knees ground first count levels steps) =
     let ks : Values (knee_fields knee_limit) = knee_values knee_limit 0 count levels steps in
     let ls = knee_levels knee_limit ks in

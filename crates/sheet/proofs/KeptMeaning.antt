@@ -14,7 +14,7 @@ use Rattle.sheet.specs.Fields.{Values}
 use Rattle.sheet.specs.Kinds.{kind_of_curve, knee_fields}
 use Rattle.sheet.specs.SlotFields.{curve_of, curve_values, knee_levels, knee_steps, knee_values, used}
 use Rattle.sheet.specs.RoundTrips.{SixKnees, SameMeaning}
-use Rattle.sheet.proofs.Holding.{shown_levels, shown_steps, level_at, step_at as step-shown-at}
+use Rattle.sheet.proofs.Holding.{shown_levels, shown_steps, level_at, step_at as step_shown_at}
 
 -- the numbers that count are as they were
 counted_same :
@@ -34,13 +34,13 @@ fault_by ground first count ls ss =
 pub same_meaning : (c : Written) → SixKnees c → SameMeaning (curve_of (kind_of_curve c) (curve_values c)) c
 unfolding knees_step
 same_meaning (Square weight target) six = record { fault = refl; ground = refl; steps = λ v. refl }
-same_meaning (Band cold warm cold-rate warm-rate) six = record { fault = refl; ground = refl; steps = λ v. refl }
+same_meaning (Band cold warm cold_rate warm_rate) six = record { fault = refl; ground = refl; steps = λ v. refl }
 same_meaning (Knees ground first count levels steps) six =
     let ks : Values (knee_fields knee_limit) = knee_values knee_limit 0 count levels steps in
     let ls = knee_levels knee_limit ks in
     let ss = knee_steps knee_limit ks in
     let at_level : (k : ℕ) → k < length levels → get_or ls k 0 ≡ used count k levels 0 = λ k within. level_at count levels steps knee_limit 0 k (omega (arith, six.0)) ∙ ap (λ (n : ℕ). used count n levels 0) (zero-add k) in
-    let at_step : (k : ℕ) → k < length steps → get_or ss k (pos 0) ≡ used count k steps (pos 0) = λ k within. step-shown-at count levels steps knee_limit 0 k (omega (arith, six.1)) ∙ ap (λ (n : ℕ). used count n steps (pos 0)) (zero-add k) in
+    let at_step : (k : ℕ) → k < length steps → get_or ss k (pos 0) ≡ used count k steps (pos 0) = λ k within. step_shown_at count levels steps knee_limit 0 k (omega (arith, six.1)) ∙ ap (λ (n : ℕ). used count n steps (pos 0)) (zero-add k) in
     let same_levels = counted_same count levels ls 0 (shown_levels count levels steps knee_limit 0 ∙ sym six.0) at_level in
     let same_steps = counted_same count steps ss (pos 0) (shown_steps count levels steps knee_limit 0 ∙ sym six.1) at_step in
     let fault : knees_fault ground first count ls ss ≡ knees_fault ground first count levels steps = ap₂ (fault_by ground first count) same_levels same_steps in

@@ -41,9 +41,9 @@ first_drop [] (suc place) x more d e = cc
 first_drop (y ∷ xs) zero x more d e = cc
 first_drop (y ∷ xs) (suc place) x more d e = first_drop xs place x more d e
 
-module _ (count : ℕ) (levels : List ℕ) (steps : List ℤ) (no-levels : all_zero (drop count levels) ≡ true) (no_steps : all_zero (drop count (map nat_abs steps)) ≡ true) where
+module _ (count : ℕ) (levels : List ℕ) (steps : List ℤ) (no_levels : all_zero (drop count levels) ≡ true) (no_steps : all_zero (drop count (map nat_abs steps)) ≡ true) where
   level_same : (place : ℕ) → used count place levels 0 ≡ get_or levels place 0
-  level_same place = used_same count place levels 0 (zero_past levels count place no-levels)
+  level_same place = used_same count place levels 0 (zero_past levels count place no_levels)
 
   step_same : (place : ℕ) → used count place steps (pos 0) ≡ get_or steps place (pos 0)
   step_same place = used_same count place steps (pos 0) (λ past. zero_of_size (get_or steps place (pos 0)) (sym (size_at steps place) ∙ zero_past (map nat_abs steps) count place no_steps past))

@@ -41,5 +41,5 @@ body_length kind = size (fields kind)
 -- the kind of a curve
 abbrev pub kind_of_curve : Written → Kind
 kind_of_curve (Square weight target) = square
-kind_of_curve (Band cold warm cold-rate warm-rate) = band
+kind_of_curve (Band cold warm cold_rate warm_rate) = band
 kind_of_curve (Knees base first count levels steps) = knees

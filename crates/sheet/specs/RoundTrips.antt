@@ -20,7 +20,7 @@ Fitting s = AllHold (fields (kind_of_curve s.curve)) (slot_values s)
 -- a knees curve has six levels and six steps, as every one in memory does
 abbrev pub SixKnees : Written → Type 0
 SixKnees (Square weight target) = Unit {0}
-SixKnees (Band cold warm cold-rate warm-rate) = Unit {0}
+SixKnees (Band cold warm cold_rate warm_rate) = Unit {0}
 SixKnees (Knees ground first count levels steps) = (length levels ≡ knee_limit) × (length steps ≡ knee_limit)
 
 -- a curve can be made from a slot's numbers

@@ -20,7 +20,7 @@ all_zero (n ∷ ns) = n == 0 && all_zero ns
 -- the knees past the count are 0; a count that no curve has leaves this to the curve
 abbrev pub unused_zero : Written → Bool
 unused_zero (Square weight target) = true
-unused_zero (Band cold warm cold-rate warm-rate) = true
+unused_zero (Band cold warm cold_rate warm_rate) = true
 unused_zero (Knees base first count levels steps) =
     cond (nat_le 1 count && nat_le count knee_limit) (all_zero (drop count levels) && all_zero (drop count (map unsigned_abs steps))) true
 

@@ -43,7 +43,7 @@ knee_values (suc many) place count levels steps = (used count place levels 0, (u
 -- what the fields of a curve hold
 abbrev pub curve_values : (c : Written) → Values (curve_fields (kind_of_curve c))
 curve_values (Square weight target) = (weight, (target, tt))
-curve_values (Band cold warm cold-rate warm-rate) = (cold, (warm, (cold-rate, (warm-rate, tt))))
+curve_values (Band cold warm cold_rate warm_rate) = (cold, (warm, (cold_rate, (warm_rate, tt))))
 curve_values (Knees base first count levels steps) = (base, (first, (count, knee_values knee_limit 0 count levels steps)))
 
 -- the bytes of a curve

@@ -1,5 +1,5 @@
 // Reading a sheet into a day: every record is tested before the day is changed.
-ghost use Rattle.std.specs.Prelude.{◌≡◌, ◌≤◌, [], length as length-of, drop, if◌then◌else◌, Ok, Err, OnOk, nat_lt};
+ghost use Rattle.std.specs.Prelude.{◌≡◌, ◌≤◌, [], length as length_of, drop, if◌then◌else◌, Ok, Err, OnOk, nat_lt};
 ghost use Rattle.day.specs.View.{plain, memory_of};
 ghost use Rattle.slots.specs.declared.refusal.Refusal.TheVariants.{Full};
 ghost use Rattle.sheet.specs.AsEdits.{MadeByEdits};
@@ -46,7 +46,7 @@ fn located(
 
 // The bytes after a body.
 fn past(rest: &[u8], length: usize) -> &[u8]
-    requires { length ≤ length-of rest.now }
+    requires { length ≤ length_of rest.now }
     ensures { result.now ≡ drop length rest.now }
 {
     &rest[length..]

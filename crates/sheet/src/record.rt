@@ -1,5 +1,5 @@
 // One record of a sheet.
-ghost use Rattle.std.specs.Prelude.{◌≡◌, ◌<◌, ◌≤◌, ◌&&◌, [], ◌∷◌, map, length as length-of, take, drop, Some, None, Ok, Err, unsigned_abs};
+ghost use Rattle.std.specs.Prelude.{◌≡◌, ◌<◌, ◌≤◌, ◌&&◌, [], ◌∷◌, map, length as length_of, take, drop, Some, None, Ok, Err, unsigned_abs};
 ghost use Rattle.curve.specs.Answers.{broken};
 ghost use Rattle.curve.specs.WrittenCurves.{written_fault};
 ghost use Rattle.slots.specs.Slots.{bounds_hold, tolls_hold};
@@ -84,7 +84,7 @@ fn taken(slot: Slot<Written>, length: usize) -> Result<(Slot<Written>, usize), R
 
 // The body of a record, cut off the bytes after its kind.
 fn cut(rest: &[u8], length: usize) -> Result<&[u8], RecordFault>
-    ensures { elim result [ Ok body ↦ (length ≤ length-of rest.now) × (body.now ≡ take length rest.now) | Err fault ↦ (length-of rest.now < length) × (fault ≡ CutShort) ] }
+    ensures { elim result [ Ok body ↦ (length ≤ length_of rest.now) × (body.now ≡ take length rest.now) | Err fault ↦ (length_of rest.now < length) × (fault ≡ CutShort) ] }
 {
     if rest.len() < length {
         return Err(RecordFault::CutShort);

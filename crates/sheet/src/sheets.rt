@@ -3,7 +3,7 @@ ghost use Rattle.std.specs.Prelude.{◌≡◌, ℕ, true, List, Ok, Err, Result}
 ghost use Rattle.slots.specs.Slots.{all_proper};
 ghost use Rattle.slots.specs.declared.slot.Slot.{Slot};
 ghost use Rattle.day.specs.View.{plain, memory_of};
-ghost use Rattle.sheet.specs.Sheets.{decoded as decoded-sheet, answered, replaced, laid_over};
+ghost use Rattle.sheet.specs.Sheets.{decoded as decoded_sheet, answered, replaced, laid_over};
 ghost use Rattle.sheet.specs.declared.fault.RecordFault.TheVariants.{UnknownKind};
 ghost use Rattle.sheet.specs.declared.fault.SheetFault.{SheetFault};
 ghost use Rattle.sheet.specs.ProperSheets.{proper_decode};
@@ -32,7 +32,7 @@ pub trait Sheets<C> {
 pub struct Records;
 
 impl Sheets<Written> for Records {
-    ghost decoded = { decoded-sheet };
+    ghost decoded = { decoded_sheet };
 
     ghost proper = { λ room sheet slots is. proper_decode room 0 0 sheet slots is };
 

@@ -67,10 +67,10 @@ module _ {C : Type 0} (ground : C → ℤ) (steps : C → ℕ → ℤ) where
       AllByRecursion (λ s. bounded s ≡ true) (stands before (day_terms ground steps slots) levels leans) →
       held_by toll_limit (next_lean leans) ≡ true
   unfolding stands next_lean
-  next_small before slots levels [] levels-each leans-each kept within = refl
-  next_small before [] levels (l ∷ ls) levels-each leans-each kept within = absurd (omega arith)
-  next_small before (s ∷ slots) [] (l ∷ ls) levels-each leans-each kept within = absurd (omega arith)
-  next_small before (s ∷ slots) (x ∷ xs) (l ∷ ls) levels-each leans-each kept within =
+  next_small before slots levels [] levels_each leans_each kept within = refl
+  next_small before [] levels (l ∷ ls) levels_each leans_each kept within = absurd (omega arith)
+  next_small before (s ∷ slots) [] (l ∷ ls) levels_each leans_each kept within = absurd (omega arith)
+  next_small before (s ∷ slots) (x ∷ xs) (l ∷ ls) levels_each leans_each kept within =
       lean_small s before x l (next_lean ls) (and_left (proper s) (all_proper slots) kept) within.0
 
   -- where the levels are inside and the leans bounded, all slots have small numbers
@@ -81,10 +81,10 @@ module _ {C : Type 0} (ground : C → ℤ) (steps : C → ℕ → ℤ) where
       AllByRecursion (λ s. bounded s ≡ true) (stands before (day_terms ground steps slots) levels leans) →
       AllByRecursion (λ s. small s ≡ true) (stands before (day_terms ground steps slots) levels leans)
   unfolding stands
-  stands_small before [] levels leans levels-each leans-each kept insides within = tt
-  stands_small before (s ∷ slots) [] leans levels-each leans-each kept insides within = tt
-  stands_small before (s ∷ slots) (x ∷ xs) [] levels-each leans-each kept insides within = tt
-  stands_small before (s ∷ slots) (x ∷ xs) (l ∷ ls) levels-each leans-each kept insides within =
+  stands_small before [] levels leans levels_each leans_each kept insides within = tt
+  stands_small before (s ∷ slots) [] leans levels_each leans_each kept insides within = tt
+  stands_small before (s ∷ slots) (x ∷ xs) [] levels_each leans_each kept insides within = tt
+  stands_small before (s ∷ slots) (x ∷ xs) (l ∷ ls) levels_each leans_each kept insides within =
       let here = and_left (proper s) (all_proper slots) kept in
       let others = and_right (proper s) (all_proper slots) kept in
       let lean = lean_small s before x l (next_lean ls) here within.0 in

@@ -10,7 +10,7 @@ ghost use Rattle.slots.specs.SlotTerms.{day_terms};
 use crate::list::Slots;
 use crate::price::{first_outside, total_price};
 use crate::refusal::Refusal;
-use crate::rules::Rule;
+use crate::rules::{AtRest, Bounded, FollowsMove, Rule};
 use crate::slot::Slot;
 use curve::Curve;
 
@@ -55,13 +55,13 @@ impl<'a, C: Curve> Slots<'a, C> {
         if let Some(slot) = first_outside(slots, levels) {
             return Err(Refusal::Outside(slot));
         }
-        if let Some(slot) = first_break::<crate::rules::Bounded, C>(slots, levels, leans) {
+        if let Some(slot) = first_break::<Bounded, C>(slots, levels, leans) {
             return Err(Refusal::Lean(slot));
         }
-        if let Some(slot) = first_break::<crate::rules::FollowsMove, C>(slots, levels, leans) {
+        if let Some(slot) = first_break::<FollowsMove, C>(slots, levels, leans) {
             return Err(Refusal::Move(slot));
         }
-        if let Some(slot) = first_break::<crate::rules::AtRest, C>(slots, levels, leans) {
+        if let Some(slot) = first_break::<AtRest, C>(slots, levels, leans) {
             return Err(Refusal::Rest(slot));
         }
         Ok(total_price(slots, levels))

@@ -2,7 +2,7 @@ use Rattle.std.proofs.Common.{◌≡◌, ℕ, ◌+◌, ◌-◌, ◌*◌, ◌^◌
 use native.Mathlib.Nat.{pow-le-pow_right}
 use Rattle.std.proofs.lemmas.Int.Digits.{number_more}
 use Rattle.std.proofs.lemmas.List.{take_all}
-use Rattle.std.specs.Int.Digits.{number_from_digits as number-in-base}
+use Rattle.std.specs.Int.Digits.{number_from_digits as number_in_base}
 use Rattle.sheet.specs.Numbers.{number}
 use Rattle.sheet.proofs.numbers.unsigned_at.Goals as goal
 
@@ -49,6 +49,6 @@ returns c =
     let far : i ≡ c.args.width = omega arith in
     let Below : ℕ → Type 0 = λ n. c.loop-byte.number < 256 ^ n in
     record {
-      value = c.loop-byte.invariant.0 ∙ ap (number-in-base 256) whole ∙ ap (λ (n : ℕ). number-in-base 256 (take n (drop c.args.place c.args.bytes.now))) same;
+      value = c.loop-byte.invariant.0 ∙ ap (number_in_base 256) whole ∙ ap (λ (n : ℕ). number_in_base 256 (take n (drop c.args.place c.args.bytes.now))) same;
       small = subst Below far c.loop-byte.invariant.1;
     }

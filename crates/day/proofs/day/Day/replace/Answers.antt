@@ -5,7 +5,7 @@ use Rattle.day.specs.Edits.{edited}
 use Rattle.slots.specs.Refusals.{told}
 use Rattle.day.specs.View.{plain, wrote}
 use Rattle.slots.specs.declared.refusal.Refusal.{Refusal}
-use Rattle.day.proofs.Fronts.{proper_set, take-set}
+use Rattle.day.proofs.Fronts.{proper_set, take_set}
 use Rattle.day.proofs.PlainEdits.{replace_accepted, replace_made}
 use Rattle.day.proofs.day.Day.replace.Goals as goal
 
@@ -14,7 +14,7 @@ invariant_of-self g c =
     let d = c.args.self.now in
     let fits : bounds_hold c.args.slot ≡ true = sym c.if-not-bounds_hold.ensures in
     let paid : tolls_hold c.args.slot ≡ true = sym c.if-not-tolls_hold.ensures in
-    let front = take-set d.count c.args.place d.slots.now c.args.slot in
+    let front = take_set d.count c.args.place d.slots.now c.args.slot in
     record { stored = simp length-set (omega arith); few = omega arith; proper = rw front (proper_set (take d.count d.slots.now) c.args.place c.args.slot d.proper (both fits paid)) }
 
 pub returns : goal.returns
