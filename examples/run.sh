@@ -1,6 +1,6 @@
 #!/bin/sh
 # Runs the proved programs on each example, and compares what they print. Build them first: make examples
-# A sheet (.sheet) is planned by tiemsker_sheet, which prints its .plan. A journal is replayed by journal:
+# A sheet (.sheet) is planned by tiemsker_sheet, which prints its .plan, and ends with status 1 where that is a refusal. A journal is replayed by journal:
 # one with an .out prints that and ends well; one with a .fault says that on standard error, prints nothing and ends with status 1.
 cd "$(dirname "$0")/.." || exit 2
 journal=crates/journal/out/journal
@@ -11,9 +11,16 @@ trap 'rm -rf "$said"' EXIT
 tried=0
 failed=0
 for example in examples/*.sheet; do
+    plan=${example%.sheet}.plan
+    expected=0
+    if grep -q '^refused' "$plan"; then
+        expected=1
+    fi
+    "$tiemsker" <"$example" >"$said/out" 2>"$said/fault"
+    status=$?
     tried=$((tried + 1))
-    if ! "$tiemsker" <"$example" | diff "${example%.sheet}.plan" - >&2; then
-        echo "$example: another plan" >&2
+    if [ $status -ne $expected ] || ! diff "$plan" "$said/out" >&2 || [ -s "$said/fault" ]; then
+        echo "$example: status $status" >&2
         failed=$((failed + 1))
     fi
 done
