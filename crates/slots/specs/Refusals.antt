@@ -1,6 +1,9 @@
 -- The number of each refusal, and the slot that it names.
 use Rattle.std.specs.Prelude.{ℕ, List, [], ◌∷◌, Some, None, Ok, Err, Option, Result}
+use Rattle.curve.specs.Answers.{broken}
+use Rattle.slots.specs.Slots.{bounds_hold, tolls_hold}
 use Rattle.slots.specs.declared.refusal.Refusal.{Refusal}
+use Rattle.slots.specs.declared.slot.Slot.{Slot}
 use Rattle.slots.specs.declared.refusal.Refusal.TheVariants.{Bounds, Toll, Full, NoSlot, Short, Count, Outside, Lean, Move, Rest}
 
 abbrev pub refusal_number : Refusal → ℕ
@@ -37,3 +40,7 @@ abbrev pub first_refusal : List (Option Refusal) → Option Refusal
 first_refusal [] = None
 first_refusal (None ∷ more) = first_refusal more
 first_refusal (Some refusal ∷ more) = Some refusal
+
+-- why a day does not take a slot, whatever its room
+abbrev pub slot_refusal : {C : Type 0} → Slot C → Option Refusal
+slot_refusal s = broken ((bounds_hold s, Bounds) ∷ (tolls_hold s, Toll) ∷ [])

@@ -1,8 +1,10 @@
 // A slot of a day: its curve, its bounds, and its tolls for each level up and down.
 ghost use Rattle.std.specs.Prelude.{◌≡◌};
+ghost use Rattle.slots.specs.Refusals.{slot_refusal, told};
 ghost use Rattle.slots.specs.Slots.{bounds_hold, tolls_hold};
 
 use crate::limits::TOLL_LIMIT;
+use crate::refusal::Refusal;
 use curve::limits::TOP;
 
 #[derive(Clone, Copy)]
@@ -26,4 +28,19 @@ pub fn tolls_hold<C>(slot: &Slot<C>) -> bool
     ensures { result ≡ tolls_hold slot.now }
 {
     slot.up <= TOLL_LIMIT && slot.down <= TOLL_LIMIT
+}
+
+impl<C> Slot<C> {
+    // Refused by the first of the rules for bounds and tolls that the slot breaks.
+    pub fn fits(&self) -> Result<(), Refusal>
+        ensures { result ≡ told (slot_refusal self.now) tt }
+    {
+        if !bounds_hold(self) {
+            return Err(Refusal::Bounds);
+        }
+        if !tolls_hold(self) {
+            return Err(Refusal::Toll);
+        }
+        Ok(())
+    }
 }
