@@ -8,15 +8,15 @@ use std::fmt;
 
 #[derive(Clone, Copy, PartialEq, Eq, Debug)]
 pub enum CurveFault {
-    Weight,
-    Target,
-    Edges,
-    Rate,
-    KneeCount,
-    KneeLevels,
-    KneeSteps,
-    Ground,
-    Sum,
+    Weight = 1,
+    Target = 2,
+    Edges = 3,
+    Rate = 4,
+    KneeCount = 5,
+    KneeLevels = 6,
+    KneeSteps = 7,
+    Ground = 8,
+    Sum = 9,
 }
 
 impl CurveFault {
@@ -24,17 +24,7 @@ impl CurveFault {
     pub fn number(self) -> u8
         ensures { result ≡ fault_number self }
     {
-        match self {
-            CurveFault::Weight => 1,
-            CurveFault::Target => 2,
-            CurveFault::Edges => 3,
-            CurveFault::Rate => 4,
-            CurveFault::KneeCount => 5,
-            CurveFault::KneeLevels => 6,
-            CurveFault::KneeSteps => 7,
-            CurveFault::Ground => 8,
-            CurveFault::Sum => 9,
-        }
+        self as u8
     }
 }
 
