@@ -5,15 +5,18 @@ use Rattle.curve.specs.Limits.{last_step, rate_limit, ground_limit, knee_limit, 
 use Rattle.curve.specs.declared.fault.CurveFault.{CurveFault}
 use Rattle.curve.specs.declared.fault.CurveFault.TheVariants.{KneeCount, KneeLevels, KneeSteps, Ground}
 
+-- each item may follow the one before it, from a first one on
+abbrev pub each_follows : {X : Type 0} → (X → X → Bool) → X → List X → Bool
+each_follows rule before [] = true
+each_follows rule before (x ∷ xs) = rule before x && each_follows rule x xs
+
 -- each level lies above the one before it, and none above the last step
 abbrev pub rise_from : ℕ → List ℕ → Bool
-rise_from before [] = true
-rise_from before (level ∷ levels) = nat_lt before level && nat_le level last_step && rise_from level levels
+rise_from = each_follows (λ before level. nat_lt before level && nat_le level last_step)
 
 -- no step falls below the one before it, and none is larger than the limit
 abbrev pub never_fall : ℤ → List ℤ → Bool
-never_fall before [] = true
-never_fall before (step ∷ steps) = int_le before step && held_by rate_limit step && never_fall step steps
+never_fall = each_follows (λ before step. int_le before step && held_by rate_limit step)
 
 -- the rules in their order, with the numbers of the knees that count
 abbrev pub knees_rules : (ground : ℤ) (first : ℤ) (count : ℕ) (levels : List ℕ) (steps : List ℤ) → List (Bool × CurveFault)
