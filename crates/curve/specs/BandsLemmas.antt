@@ -5,7 +5,7 @@ use Rattle.std.proofs.Math.Nat.{zero-sub}
 use Rattle.std.proofs.lemmas.Int.{ints}
 use Rattle.std.proofs.lemmas.Nat.{mul-le}
 use Rattle.std.proofs.lemmas.Bool.Decides.{nat_tests}
-use Rattle.curve.specs.Limits.{top, ground_limit, rate_limit}
+use Rattle.curve.specs.Limits.{top, step_limit, ground_limit, rate_limit}
 use Rattle.curve.specs.Meaning.{cost}
 use Rattle.curve.specs.Bands.{band_cost, band_ground, band_step}
 use Rattle.curve.specs.Costs.{cost_is}
@@ -32,6 +32,14 @@ band_costs p q c d v apart = cost_is (band_ground p c) (band_step p q c d) (band
         let not_below : p ≤ v → c * (p - v) ≡ c * (p - suc v) = λ h. rate_same c (p - v) (p - suc v) (omega arith) in
         let not_above : v < q → d * (suc v - q) ≡ d * (v - q) = λ h. rate_same d (suc v - q) (v - q) (omega arith) in
         grind (arith, ints, nat_tests)
+
+-- steps never fall
+pub band_rising : (p q c d v : ℕ) → p ≤ q → band_step p q c d v ≤ℤ band_step p q c d (suc v)
+band_rising p q c d v apart = grind (arith, ints, nat_tests)
+
+-- steps keep within the largest rate
+pub band_bounded : (p q c d v : ℕ) → c ≤ rate_limit → d ≤ rate_limit → (neg_ℤ (pos step_limit) ≤ℤ band_step p q c d v) × (band_step p q c d v ≤ℤ pos step_limit)
+band_bounded p q c d v slow mild = (grind (arith, ints, nat_tests), grind (arith, ints, nat_tests))
 
 -- the ground keeps within 900,000,000 times 1,023
 pub band_grounded : (p c : ℕ) → p ≤ top → c ≤ rate_limit → (neg_ℤ (pos ground_limit) ≤ℤ band_ground p c) × (band_ground p c ≤ℤ pos ground_limit)

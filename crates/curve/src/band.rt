@@ -4,8 +4,8 @@ ghost use Rattle.curve.specs.Answers.{Answers};
 ghost use Rattle.curve.specs.Bands.{band_fault, band_cost, band_ground, band_step};
 ghost use Rattle.curve.specs.Limits.{top, rate_limit};
 ghost use Rattle.curve.specs.Meaning.{cost};
-ghost use Rattle.std.proofs.Common.{arith, rules};
-ghost use Rattle.curve.specs.BandsLemmas.{band_grounded};
+ghost use Rattle.std.proofs.Common.{arith};
+ghost use Rattle.curve.specs.BandsLemmas.{band_rising, band_bounded, band_grounded};
 
 use crate::Curve;
 use crate::fault::CurveFault;
@@ -49,9 +49,9 @@ impl Curve for Band {
 
     ghost steps = { λ b. band_step b.cold b.warm b.cold_rate b.warm_rate };
 
-    ghost rising = { first_of (Prim.search rules, Prim.grind (arith, Self.row.coded.inj)) };
+    ghost rising = { λ b v within. band_rising b.cold b.warm b.cold_rate b.warm_rate v b.apart };
 
-    ghost bounded = { first_of (Prim.search rules, Prim.grind (arith, Self.row.coded.inj)) };
+    ghost bounded = { λ b v within. band_bounded b.cold b.warm b.cold_rate b.warm_rate v b.slow b.mild };
 
     ghost grounded = { λ b. band_grounded b.cold b.cold_rate (omega arith) b.slow };
 

@@ -1,10 +1,9 @@
 // A written curve: one square, band or knees curve as plain numbers, as it lies in slot memory.
-ghost use Rattle.std.specs.Prelude.{◌≡◌, min, pos, MatchResult};
-ghost use Rattle.curve.specs.Limits.{last_step, step_limit, ground_limit};
+ghost use Rattle.std.specs.Prelude.{◌≡◌, None};
+ghost use Rattle.curve.specs.Limits.{step_limit, ground_limit};
 ghost use Rattle.curve.specs.WrittenCurves.{written_fault, written_ground, written_steps};
 ghost use Rattle.curve.specs.WrittenSteps.{written_rising};
 ghost use Rattle.std.proofs.Common.{arith};
-ghost use Rattle.std.proofs.lemmas.Int.{ints};
 ghost use Rattle.std.proofs.lemmas.Bool.Decides.{nat_tests};
 ghost use Rattle.curve.specs.Squares.{square_fault};
 ghost use Rattle.curve.specs.Bands.{band_fault};
@@ -14,7 +13,7 @@ ghost use Rattle.curve.specs.SquaresLemmas.{square_bounded, square_grounded};
 ghost use Rattle.curve.specs.KneeStepsLemmas.{knees_bounded};
 ghost use Rattle.curve.specs.Tests.{all_pass, bounds_of_held};
 ghost use Rattle.curve.specs.Unless.{unless_within};
-ghost use Rattle.curve.specs.BandsLemmas.{band_grounded};
+ghost use Rattle.curve.specs.BandsLemmas.{band_bounded, band_grounded};
 
 use crate::Curve;
 use crate::band::Band;
@@ -43,22 +42,35 @@ pub enum Written {
     },
 }
 
-fn ground_or_zero<C: Curve + Drop>(made: Result<C, CurveFault>) -> i64
-    ensures { MatchResult made (λ c. result ≡ C.Curve.ground c) (λ _. result ≡ pos 0) }
-{
-    match made {
-        Ok(curve) => curve.ground(),
-        Err(_) => 0,
-    }
-}
-
-fn step_or_zero<C: Curve + Drop>(made: Result<C, CurveFault>, level: u16) -> i64
-    ensures { MatchResult made (λ c. result ≡ C.Curve.steps c (min level last_step)) (λ _. result ≡ pos 0) }
-{
-    match made {
-        Ok(curve) => curve.step(level),
-        Err(_) => 0,
-    }
+// What an expression says of the curve that written numbers make, of whichever kind it is, or of why they make none.
+macro_rules! of_made {
+    ($written:expr, $made:ident => $says:expr) => {
+        match $written {
+            Written::Square { weight, target } => {
+                let $made = Square::new(weight, target);
+                $says
+            }
+            Written::Band {
+                cold,
+                warm,
+                cold_rate,
+                warm_rate,
+            } => {
+                let $made = Band::new(cold, warm, cold_rate, warm_rate);
+                $says
+            }
+            Written::Knees {
+                ground,
+                first,
+                count,
+                levels,
+                steps,
+            } => {
+                let $made = Knees::new(ground, first, count as usize, levels, steps);
+                $says
+            }
+        }
+    };
 }
 
 impl Written {
@@ -66,21 +78,18 @@ impl Written {
     pub fn fault(&self) -> Option<CurveFault>
         ensures { result ≡ written_fault self.now }
     {
-        match *self {
-            Written::Square { weight, target } => Square::new(weight, target).err(),
-            Written::Band {
-                cold,
-                warm,
-                cold_rate,
-                warm_rate,
-            } => Band::new(cold, warm, cold_rate, warm_rate).err(),
-            Written::Knees {
-                ground,
-                first,
-                count,
-                levels,
-                steps,
-            } => Knees::new(ground, first, count as usize, levels, steps).err(),
+        of_made!(*self, made => made.err())
+    }
+}
+
+// A square of weight 1 about level 0: it fills memory that no day has written yet, and makes a curve.
+impl Default for Written {
+    ghost is_default = { λ w. (w ≡ Square 1 0) × (written_fault w ≡ None) };
+
+    fn default() -> Written {
+        Written::Square {
+            weight: 1,
+            target: 0,
         }
     }
 }
@@ -94,7 +103,7 @@ impl Curve for Written {
 
     ghost bounded = { elim [
       | Square w a ↦ λ v within. unless_within step_limit (square_fault w a) _ (λ ok. square_bounded w a v (Prim.grind (arith, nat_tests)) (Prim.grind (arith, nat_tests)) within)
-      | Band p q c d ↦ λ v within. unless_within step_limit (band_fault p q c d) _ (λ ok. (Prim.grind (arith, ints, nat_tests), Prim.grind (arith, ints, nat_tests)))
+      | Band p q c d ↦ λ v within. unless_within step_limit (band_fault p q c d) _ (λ ok. band_bounded p q c d v (Prim.grind (arith, nat_tests)) (Prim.grind (arith, nat_tests)))
       | Knees g f n ls ss ↦ λ v within. unless_within step_limit (knees_fault g f n ls ss) _ (λ ok. knees_bounded f n ls ss v (all_pass (knees_rules g f n ls ss) ok).1.1.0)
     ] };
 
@@ -105,43 +114,10 @@ impl Curve for Written {
     ] };
 
     fn ground(&self) -> i64 {
-        match *self {
-            Written::Square { weight, target } => ground_or_zero(Square::new(weight, target)),
-            Written::Band {
-                cold,
-                warm,
-                cold_rate,
-                warm_rate,
-            } => ground_or_zero(Band::new(cold, warm, cold_rate, warm_rate)),
-            Written::Knees {
-                ground,
-                first,
-                count,
-                levels,
-                steps,
-            } => ground_or_zero(Knees::new(ground, first, count as usize, levels, steps)),
-        }
+        of_made!(*self, made => made.map_or(0, |curve| curve.ground()))
     }
 
     fn step(&self, level: u16) -> i64 {
-        match *self {
-            Written::Square { weight, target } => step_or_zero(Square::new(weight, target), level),
-            Written::Band {
-                cold,
-                warm,
-                cold_rate,
-                warm_rate,
-            } => step_or_zero(Band::new(cold, warm, cold_rate, warm_rate), level),
-            Written::Knees {
-                ground,
-                first,
-                count,
-                levels,
-                steps,
-            } => step_or_zero(
-                Knees::new(ground, first, count as usize, levels, steps),
-                level,
-            ),
-        }
+        of_made!(*self, made => made.map_or(0, |curve| curve.step(level)))
     }
 }

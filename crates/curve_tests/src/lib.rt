@@ -341,6 +341,13 @@ mod tests {
     }
 
     #[test]
+    fn the_default_makes_a_curve(rt: HostRuntime) {
+        let written = Written::default();
+        assert_eq!(rt; written.fault(), None);
+        costs(&rt, &written, &[(0, 0), (1, 1), (3, 9), (1_023, 1_046_529)]);
+    }
+
+    #[test]
     fn numbers_that_make_no_curve_cost_nothing(rt: HostRuntime) -> Result<(), Fail> {
         let free = Band::new(0, 0, 0, 0)?;
         for (written, fault) in [
