@@ -1,11 +1,11 @@
 -- The band curve's steps add up to its formula, and keep the laws.
-use Rattle.std.specs.Prelude.{◌≡◌, ℕ, suc, ◌+◌, ◌-◌, ◌*◌, ◌<◌, ◌≤◌, pos, ◌+ℤ◌, neg_ℤ, ◌≤ℤ◌}
+use Rattle.std.specs.Prelude.{◌≡◌, ℕ, suc, ◌+◌, ◌-◌, ◌*◌, ◌<◌, ◌≤◌, pos, ◌+ℤ◌, ◌≤ℤ◌}
 use Rattle.std.proofs.Common.{◌∙◌, ap, mul-suc, mul-zero, arith}
 use Rattle.std.proofs.Math.Nat.{zero-sub}
 use Rattle.std.proofs.lemmas.Int.{ints}
 use Rattle.std.proofs.lemmas.Nat.{mul-le}
 use Rattle.std.proofs.lemmas.Bool.Decides.{nat_tests}
-use Rattle.curve.specs.Limits.{top, step_limit, ground_limit, rate_limit}
+use Rattle.curve.specs.Limits.{Within, top, step_limit, ground_limit, rate_limit}
 use Rattle.curve.specs.Meaning.{cost}
 use Rattle.curve.specs.Bands.{band_cost, band_ground, band_step}
 use Rattle.curve.specs.Costs.{cost_is}
@@ -38,9 +38,9 @@ pub band_rising : (p q c d v : ℕ) → p ≤ q → band_step p q c d v ≤ℤ b
 band_rising p q c d v apart = grind (arith, ints, nat_tests)
 
 -- steps keep within the largest rate
-pub band_bounded : (p q c d v : ℕ) → c ≤ rate_limit → d ≤ rate_limit → (neg_ℤ (pos step_limit) ≤ℤ band_step p q c d v) × (band_step p q c d v ≤ℤ pos step_limit)
+pub band_bounded : (p q c d v : ℕ) → c ≤ rate_limit → d ≤ rate_limit → Within step_limit (band_step p q c d v)
 band_bounded p q c d v slow mild = (grind (arith, ints, nat_tests), grind (arith, ints, nat_tests))
 
 -- the ground keeps within 900,000,000 times 1,023
-pub band_grounded : (p c : ℕ) → p ≤ top → c ≤ rate_limit → (neg_ℤ (pos ground_limit) ≤ℤ band_ground p c) × (band_ground p c ≤ℤ pos ground_limit)
+pub band_grounded : (p c : ℕ) → p ≤ top → c ≤ rate_limit → Within ground_limit (band_ground p c)
 band_grounded p c inside slow = let small = mul-le c p rate_limit top slow inside in (omega (arith, ints), omega (arith, ints))

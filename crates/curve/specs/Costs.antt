@@ -1,11 +1,11 @@
 -- What the steps add up to, for every kind of curve.
-use Rattle.std.specs.Prelude.{◌≡◌, ℕ, zero, suc, ◌+◌, ◌*◌, ◌<◌, ◌≤◌, ℤ, pos, ◌+ℤ◌, neg_ℤ, ◌≤ℤ◌}
+use Rattle.std.specs.Prelude.{◌≡◌, ℕ, zero, suc, ◌+◌, ◌*◌, ◌<◌, ◌≤◌, ℤ, ◌+ℤ◌, ◌≤ℤ◌}
 use Rattle.std.proofs.Common.{sym, ◌∙◌, ap, arith}
 use Rattle.std.proofs.Math.Decide.{dec_le}
 use Rattle.std.proofs.Math.IntN.{+ℤ_idr, +ℤ_assoc}
 use Rattle.std.specs.Int.Signed.{≤ℤ_refl}
 use Rattle.std.proofs.lemmas.Int.{ints}
-use Rattle.curve.specs.Limits.{top, last_step, step_limit, ground_limit}
+use Rattle.curve.specs.Limits.{Within, top, last_step, step_limit, ground_limit}
 use Rattle.curve.specs.Meaning.{climb, cost}
 
 -- the cost at level 0 is the ground
@@ -38,9 +38,9 @@ rising_between steps rising v (suc w) le within =
 -- a cost lies within the limit of the ground and the limit of a step for each level
 pub cost_bounded :
     (ground : ℤ) (steps : ℕ → ℤ) →
-    (neg_ℤ (pos ground_limit) ≤ℤ ground) × (ground ≤ℤ pos ground_limit) →
-    ((v : ℕ) → v ≤ last_step → (neg_ℤ (pos step_limit) ≤ℤ steps v) × (steps v ≤ℤ pos step_limit)) →
-    (v : ℕ) → v ≤ top → (neg_ℤ (pos (ground_limit + v * step_limit)) ≤ℤ cost ground steps v) × (cost ground steps v ≤ℤ pos (ground_limit + v * step_limit))
+    Within ground_limit ground →
+    ((v : ℕ) → v ≤ last_step → Within step_limit (steps v)) →
+    (v : ℕ) → v ≤ top → Within (ground_limit + v * step_limit) (cost ground steps v)
 cost_bounded ground steps grounded bounded zero within = let none = cost_none ground steps in (omega (arith, ints), omega (arith, ints))
 cost_bounded ground steps grounded bounded (suc v) within =
     let before = cost_bounded ground steps grounded bounded v (omega arith) in

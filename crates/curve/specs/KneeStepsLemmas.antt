@@ -1,11 +1,11 @@
 -- The steps of a knees curve: where they end, and that they keep the laws.
-use Rattle.std.specs.Prelude.{◌≡◌, ℕ, suc, ◌≤◌, true, cond, ◌&&◌, ◌⊎◌, List, [], ◌∷◌, length, take, drop, replicate, ℤ, pos, neg_ℤ, ◌≤ℤ◌, nat_le, refl}
+use Rattle.std.specs.Prelude.{◌≡◌, ℕ, suc, ◌≤◌, true, cond, ◌&&◌, ◌⊎◌, List, [], ◌∷◌, length, take, drop, replicate, ℤ, pos, ◌≤ℤ◌, nat_le, refl}
 use Rattle.std.proofs.Common.{◌∙◌, ap₂, inl, inr, arith, length-take, take-take}
 use Rattle.std.proofs.lemmas.List.{take-append-le}
 use Rattle.std.specs.Int.Signed.{≤ℤ_refl}
 use Rattle.std.proofs.lemmas.Int.{ints}
 use Rattle.std.proofs.lemmas.Bool.Decides.{nat_tests}
-use Rattle.curve.specs.Limits.{held_by, rate_limit, step_limit, knee_limit}
+use Rattle.curve.specs.Limits.{Within, held_by, rate_limit, step_limit, knee_limit}
 use Rattle.curve.specs.KneeSteps.{step_at, never_fall, kept, knees_step}
 use Rattle.curve.specs.Tests.{and_left, and_right, bounds_of_held}
 
@@ -58,7 +58,7 @@ knees_rising first count levels steps v fair =
     step_at_rising v (suc v) first first (take count levels) (take count steps) (omega arith) (≤ℤ_refl first) (and_right (held_by rate_limit first) _ fair)
 
 -- steps keep within the limit of the laws
-pub knees_bounded : (first : ℤ) (count : ℕ) (levels : List ℕ) (steps : List ℤ) (v : ℕ) → (held_by rate_limit first && never_fall first (take count steps)) ≡ true → (neg_ℤ (pos step_limit) ≤ℤ knees_step first count levels steps v) × (knees_step first count levels steps v ≤ℤ pos step_limit)
+pub knees_bounded : (first : ℤ) (count : ℕ) (levels : List ℕ) (steps : List ℤ) (v : ℕ) → (held_by rate_limit first && never_fall first (take count steps)) ≡ true → Within step_limit (knees_step first count levels steps v)
 unfolding knees_step
 knees_bounded first count levels steps v fair =
     let held = step_at_held v first (take count levels) (take count steps) (and_left (held_by rate_limit first) _ fair) (and_right (held_by rate_limit first) _ fair) in

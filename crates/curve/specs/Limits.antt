@@ -1,5 +1,5 @@
 -- Each number of the rules for curves, once.
-use Rattle.std.specs.Prelude.{ℕ, Bool, ◌&&◌, ℤ, pos, neg_ℤ, int_le}
+use Rattle.std.specs.Prelude.{ℕ, Bool, ◌&&◌, ℤ, pos, neg_ℤ, ◌≤ℤ◌, int_le}
 
 -- the warmest level
 abbrev pub top : ℕ
@@ -30,5 +30,9 @@ abbrev pub knee_limit : ℕ
 knee_limit = 6
 
 -- a number lies from minus a limit to that limit
+abbrev pub Within : ℕ → ℤ → Type 0
+Within limit z = (neg_ℤ (pos limit) ≤ℤ z) × (z ≤ℤ pos limit)
+
+-- and the test of it
 abbrev pub held_by : ℕ → ℤ → Bool
 held_by limit z = int_le (neg_ℤ (pos limit)) z && int_le z (pos limit)

@@ -1,5 +1,5 @@
 -- Sums of two curves: holding keeps the order and leaves alone what fits, and two steps decide whether all fit.
-use Rattle.std.specs.Prelude.{◌≡◌, ℕ, suc, ◌<◌, ◌≤◌, Bool, true, false, ◌&&◌, ℤ, pos, ◌+ℤ◌, neg_ℤ, ◌≤ℤ◌, Decides, int_le, refl}
+use Rattle.std.specs.Prelude.{◌≡◌, ℕ, suc, ◌<◌, ◌≤◌, Bool, true, ◌&&◌, ℤ, pos, ◌+ℤ◌, neg_ℤ, ◌≤ℤ◌, Decides, int_le, refl}
 use Rattle.std.proofs.Common.{arith, lit<}
 use Rattle.std.proofs.lemmas.Int.{ints, clamps}
 use Rattle.std.proofs.lemmas.Bool.Decides.{nat_tests, same_from_decides, Decides-below_and}
@@ -42,7 +42,7 @@ between_ends s t rs rt e v h =
     let t_high = rising_between t rt v last_step (omega arith) (omega arith) in
     let low = le_of_test (neg_ℤ (pos step_limit)) (s 0 +ℤ t 0) (and_left (low_fits s t) (high_fits s t) e) in
     let high = le_of_test (s last_step +ℤ t last_step) (pos step_limit) (and_right (low_fits s t) (high_fits s t) e) in
-    held_of_bounds step_limit (s v +ℤ t v) (omega (arith, ints)) (omega (arith, ints))
+    held_of_bounds step_limit (s v +ℤ t v) (omega (arith, ints), omega (arith, ints))
 
 -- where each step fits, both ends do
 ends_of_all : (s t : ℕ → ℤ) → ((v : ℕ) → v < top → step_fits s t v ≡ true) → (low_fits s t && high_fits s t) ≡ true
@@ -56,10 +56,6 @@ two_steps_decide s t rs rt = same_from_decides _ _ (all_fit s t) (between_ends s
 pub exact_steps : (s t : ℕ → ℤ) → all_below top (step_fits s t) ≡ true → (v : ℕ) → v ≤ last_step → pair_step s t v ≡ s v +ℤ t v
 exact_steps s t e v h = hold_same step_limit (s v +ℤ t v) ((all_fit s t).0 e v (omega arith))
 
--- the tests as the program makes them: once ground and coldest step fit, the warmest decides
-pub warmest_decides : (g h : ℤ) (s t : ℕ → ℤ) → Rising s → Rising t → held_by ground_limit (g +ℤ h) ≡ true → low_fits s t ≡ true → sums_fit g s h t ≡ high_fits s t
-warmest_decides g h s t rs rt held low = rw (held, two_steps_decide s t rs rt, low)
-
--- and where the coldest does not fit, not all do
-pub coldest_decides : (g h : ℤ) (s t : ℕ → ℤ) → Rising s → Rising t → held_by ground_limit (g +ℤ h) ≡ true → low_fits s t ≡ false → sums_fit g s h t ≡ false
-coldest_decides g h s t rs rt held low = rw (held, two_steps_decide s t rs rt, low)
+-- the ground and these two steps decide whether all sums fit
+pub ends_decide : (g h : ℤ) (s t : ℕ → ℤ) → Rising s → Rising t → sums_fit g s h t ≡ (held_by ground_limit (g +ℤ h) && (low_fits s t && high_fits s t))
+ends_decide g h s t rs rt = rw (two_steps_decide s t rs rt)

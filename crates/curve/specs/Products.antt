@@ -3,6 +3,7 @@ use Rattle.std.specs.Prelude.{◌≡◌, ℕ, zero, suc, ◌*◌, ℤ, pos, ◌+
 use Rattle.std.proofs.Common.{mul-zero, arith}
 use Rattle.std.proofs.Math.IntN.{suc_ℤ-*ℤ, zero-*ℤ}
 use Rattle.std.proofs.lemmas.Int.{ints}
+use Rattle.curve.specs.Limits.{Within}
 
 -- one time more
 pub times_more : (w : ℕ) (z : ℤ) → pos (suc w) *ℤ z ≡ pos w *ℤ z +ℤ z
@@ -32,5 +33,5 @@ times_negative w zero = rw mul-zero
 times_negative w (suc m) = refl
 
 -- so many times a number of size m at most is of size w * m at most
-pub times_within : (w : ℕ) (z : ℤ) (m : ℕ) → neg_ℤ (pos m) ≤ℤ z → z ≤ℤ pos m → (neg_ℤ (pos (w * m)) ≤ℤ (pos w *ℤ z)) × ((pos w *ℤ z) ≤ℤ pos (w * m))
-times_within w z m low high = (rw (times_negative w m) at (times_le w (neg_ℤ (pos m)) z low), times_le w z (pos m) high)
+pub times_within : (w : ℕ) (z : ℤ) (m : ℕ) → Within m z → Within (w * m) (pos w *ℤ z)
+times_within w z m within = (rw (times_negative w m) at (times_le w (neg_ℤ (pos m)) z within.0), times_le w z (pos m) within.1)

@@ -4,7 +4,7 @@ use Rattle.std.proofs.Common.{sym, ◌∙◌, ap, arith}
 use Rattle.std.proofs.Math.IntN.{suc_ℤ, suc_ℤ-*ℤ, *ℤ_comm, +ℤ_one}
 use Rattle.std.proofs.lemmas.Int.{ints}
 use Rattle.std.proofs.lemmas.Nat.{mul-le}
-use Rattle.curve.specs.Limits.{top, last_step, step_limit, ground_limit, weight_limit}
+use Rattle.curve.specs.Limits.{Within, top, last_step, step_limit, ground_limit, weight_limit}
 use Rattle.curve.specs.Meaning.{cost}
 use Rattle.curve.specs.Squares.{square_cost, square_ground, square_step}
 use Rattle.curve.specs.Costs.{cost_is}
@@ -45,14 +45,14 @@ unfolding square_step
 square_rising w a v = times_le w (pos 2 *ℤ (pos v -ℤ pos a) +ℤ pos 1) (pos 2 *ℤ (pos (suc v) -ℤ pos a) +ℤ pos 1) (omega (arith, ints))
 
 -- steps keep within 400,000 times 2,047
-pub square_bounded : (w a v : ℕ) → w ≤ weight_limit → a ≤ top → v ≤ last_step → (neg_ℤ (pos step_limit) ≤ℤ square_step w a v) × (square_step w a v ≤ℤ pos step_limit)
+pub square_bounded : (w a v : ℕ) → w ≤ weight_limit → a ≤ top → v ≤ last_step → Within step_limit (square_step w a v)
 unfolding square_step
 square_bounded w a v light aimed within =
-    let b = times_within w (pos 2 *ℤ (pos v -ℤ pos a) +ℤ pos 1) 2047 (omega (arith, ints)) (omega (arith, ints)) in
+    let b = times_within w (pos 2 *ℤ (pos v -ℤ pos a) +ℤ pos 1) 2047 (omega (arith, ints), omega (arith, ints)) in
     (omega (arith, ints), omega (arith, ints))
 
 -- the ground keeps within 400,000 times the square of 1,023
-pub square_grounded : (w a : ℕ) → w ≤ weight_limit → a ≤ top → (neg_ℤ (pos ground_limit) ≤ℤ square_ground w a) × (square_ground w a ≤ℤ pos ground_limit)
+pub square_grounded : (w a : ℕ) → w ≤ weight_limit → a ≤ top → Within ground_limit (square_ground w a)
 unfolding square_ground
 square_grounded w a light aimed =
     let b = mul-le w (a * a) weight_limit (top * top) light (mul-le a a top top aimed aimed) in

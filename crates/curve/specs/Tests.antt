@@ -3,7 +3,7 @@ use Rattle.std.specs.Prelude.{◌≡◌, ℕ, Bool, true, false, ◌&&◌, T, Li
 use Rattle.std.proofs.Common.{sym, subst, arith}
 use Rattle.std.specs.List.{AllByRecursion}
 use Rattle.curve.specs.Answers.{broken}
-use Rattle.curve.specs.Limits.{held_by}
+use Rattle.curve.specs.Limits.{Within, held_by}
 
 pub and_left : (a b : Bool) → (a && b) ≡ true → a ≡ true
 and_left true b h = refl
@@ -28,13 +28,13 @@ test_of_le a b h = passes (int_le a b) h.le
     passes false p = absurd p
 
 -- a number that passes the test lies between the limits
-pub bounds_of_held : (limit : ℕ) (z : ℤ) → held_by limit z ≡ true → (neg_ℤ (pos limit) ≤ℤ z) × (z ≤ℤ pos limit)
+pub bounds_of_held : (limit : ℕ) (z : ℤ) → held_by limit z ≡ true → Within limit z
 bounds_of_held limit z held =
     (le_of_test _ _ (and_left (int_le (neg_ℤ (pos limit)) z) (int_le z (pos limit)) held), le_of_test _ _ (and_right (int_le (neg_ℤ (pos limit)) z) (int_le z (pos limit)) held))
 
 -- and what lies between the limits passes it
-pub held_of_bounds : (limit : ℕ) (z : ℤ) → neg_ℤ (pos limit) ≤ℤ z → z ≤ℤ pos limit → held_by limit z ≡ true
-held_of_bounds limit z low high = both (test_of_le _ _ low) (test_of_le _ _ high)
+pub held_of_bounds : (limit : ℕ) (z : ℤ) → Within limit z → held_by limit z ≡ true
+held_of_bounds limit z within = both (test_of_le _ _ within.0) (test_of_le _ _ within.1)
 
 -- where no rule is broken, each test passes
 pub all_pass : {F : Type 0} (rules : List (Bool × F)) → broken rules ≡ None → AllByRecursion (λ rule. rule.0 ≡ true) rules

@@ -41,10 +41,10 @@ impl Knees {
         if count < 1 || count > KNEE_LIMIT {
             return Err(CurveFault::KneeCount);
         }
-        if !rises(&levels[0..count]) {
+        if !rises(&levels[..count]) {
             return Err(CurveFault::KneeLevels);
         }
-        if !held_by(KNEE_STEP_LIMIT, first as i64) || !never_falls(first, &steps[0..count]) {
+        if !held_by(KNEE_STEP_LIMIT, first as i64) || !never_falls(first, &steps[..count]) {
             return Err(CurveFault::KneeSteps);
         }
         if !held_by(GROUND_LIMIT, ground) {
@@ -80,8 +80,8 @@ impl Curve for Knees {
         step_at(
             level,
             self.first,
-            &self.levels[0..self.count],
-            &self.steps[0..self.count],
+            &self.levels[..self.count],
+            &self.steps[..self.count],
         ) as i64
     }
 }

@@ -12,8 +12,8 @@ mod scaling;
 pub mod square;
 pub mod written;
 
-ghost use Rattle.std.specs.Prelude.{◌≡◌, ℕ, suc, ◌<◌, ◌≤◌, min, ℤ, pos, neg_ℤ, ◌≤ℤ◌};
-ghost use Rattle.curve.specs.Limits.{last_step, step_limit, ground_limit};
+ghost use Rattle.std.specs.Prelude.{◌≡◌, ℕ, suc, ◌<◌, ◌≤◌, min, ℤ, ◌≤ℤ◌};
+ghost use Rattle.curve.specs.Limits.{Within, last_step, step_limit, ground_limit};
 
 pub trait Curve {
     ghost ground: { Self → ℤ };
@@ -29,7 +29,7 @@ pub trait Curve {
 
     ghost rising: { (c : Self) (v : ℕ) → v < last_step → steps c v ≤ℤ steps c (suc v) };
 
-    ghost bounded: { (c : Self) (v : ℕ) → v ≤ last_step → (neg_ℤ (pos step_limit) ≤ℤ steps c v) × (steps c v ≤ℤ pos step_limit) };
+    ghost bounded: { (c : Self) (v : ℕ) → v ≤ last_step → Within step_limit (steps c v) };
 
-    ghost grounded: { (c : Self) → (neg_ℤ (pos ground_limit) ≤ℤ Self.ground c) × (Self.ground c ≤ℤ pos ground_limit) };
+    ghost grounded: { (c : Self) → Within ground_limit (Self.ground c) };
 }

@@ -35,13 +35,9 @@ fn step_sum<A: Curve, B: Curve>(first: &A, second: &B, level: u16) -> i64
 fn sums_fit<A: Curve, B: Curve>(first: &A, second: &B) -> bool
     ensures { result ≡ sums_fit (A.Curve.ground first.now) (A.Curve.steps first.now) (B.Curve.ground second.now) (B.Curve.steps second.now) }
 {
-    if !held_by(GROUND_LIMIT, ground_sum(first, second)) {
-        return false;
-    }
-    if step_sum(first, second, 0) < -STEP_LIMIT {
-        return false;
-    }
-    step_sum(first, second, LAST_STEP) <= STEP_LIMIT
+    held_by(GROUND_LIMIT, ground_sum(first, second))
+        && step_sum(first, second, 0) >= -STEP_LIMIT
+        && step_sum(first, second, LAST_STEP) <= STEP_LIMIT
 }
 
 impl<A: Curve + Copy, B: Curve + Copy> Pair<A, B> {

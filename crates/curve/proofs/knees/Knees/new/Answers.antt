@@ -14,5 +14,5 @@ invariant_of-result c =
       grounded = grind (arith, ints, nat_tests);
     }
 
-pub returns : goal.returns
-returns c = record { numbers = search rules; meaning = λ v. search (rules, to_z-of_z, knees_kept, c.keep.ensures, c.keep-2.ensures) }
+pub returns-clause-meaning : goal.returns-clause-meaning
+returns-clause-meaning c v = search (rules, to_z-of_z, knees_kept, c.keep.ensures, c.keep-2.ensures)

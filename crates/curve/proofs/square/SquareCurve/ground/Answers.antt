@@ -5,9 +5,6 @@ use Rattle.curve.specs.Limits.{top}
 use Rattle.curve.specs.Squares.{square_ground}
 use Rattle.curve.proofs.square.SquareCurve.ground.Goals as goal
 
-pub times-requires : goal.times-requires
-times-requires c = let small = mul-le _ _ top top c.args.self.now.aimed c.args.self.now.aimed in omega (arith, ints, small)
-
 pub returns : goal.returns
 unfolding square_ground
 returns c =
