@@ -1,6 +1,6 @@
 // Checking plans by leans.
 use crate::holding::refused;
-use crate::making::{bands, fill, slot, square, squares, wide};
+use crate::making::{bands, day_of, slot, square, squares, wide};
 use curve::written::Written;
 use day::day::Day;
 use std::process::Abort;
@@ -9,8 +9,7 @@ use std::test::Fail;
 #[test]
 fn any_cheapest_plan_with_leans_is_accepted(rt: HostRuntime) -> Result<(), Fail> {
     let mut memory = squares(4);
-    let mut day = Day::open(&mut memory);
-    fill(&mut day, &bands())?;
+    let day = day_of(&mut memory, &bands())?;
     for level in 5..10u16 {
         assert_eq!(rt; day.check(&[level, level], &[0, 3])?.cost(), 12);
     }
@@ -18,8 +17,7 @@ fn any_cheapest_plan_with_leans_is_accepted(rt: HostRuntime) -> Result<(), Fail>
     let checked = day.check(&levels, &[0, 3])?;
     assert_eq!(rt; checked.cost(), 12);
     assert_eq!(rt; checked.levels(), &levels[..]);
-    let mut day = Day::open(&mut memory);
-    fill(&mut day, &squares(4))?;
+    let day = day_of(&mut memory, &squares(4))?;
     assert_eq!(rt; day.check(&[12, 16, 12], &[0, 4, -4])?.cost(), 56);
     Ok(())
 }
@@ -27,8 +25,7 @@ fn any_cheapest_plan_with_leans_is_accepted(rt: HostRuntime) -> Result<(), Fail>
 #[test]
 fn leans_beyond_the_tolls_are_refused(rt: HostRuntime) -> Result<(), Fail> {
     let mut memory = bands();
-    let mut day = Day::open(&mut memory);
-    fill(&mut day, &bands())?;
+    let day = day_of(&mut memory, &bands())?;
     for lean in [1, -1, 3, i64::MAX, i64::MIN] {
         refused(&rt, day.check(&[9, 9], &[lean, 3]), 17, Some(0))?;
     }
@@ -42,8 +39,7 @@ fn leans_beyond_the_tolls_are_refused(rt: HostRuntime) -> Result<(), Fail> {
 fn a_move_asks_for_the_lean_of_its_toll(rt: HostRuntime) -> Result<(), Fail> {
     let one = slot(square(1, 10), 0, 1023, 3, 5);
     let mut memory = [one; 2];
-    let mut day = Day::open(&mut memory);
-    fill(&mut day, &[one, one])?;
+    let day = day_of(&mut memory, &[one, one])?;
     for lean in [2, 0, -5] {
         refused(&rt, day.check(&[10, 11], &[0, lean]), 18, Some(1))?;
     }
@@ -57,8 +53,7 @@ fn a_move_asks_for_the_lean_of_its_toll(rt: HostRuntime) -> Result<(), Fail> {
 #[test]
 fn a_level_that_is_not_at_rest_is_refused(rt: HostRuntime) -> Result<(), Fail> {
     let mut memory = bands();
-    let mut day = Day::open(&mut memory);
-    fill(&mut day, &bands())?;
+    let day = day_of(&mut memory, &bands())?;
     refused(&rt, day.check(&[4, 5], &[0, 3]), 19, Some(0))?;
     refused(&rt, day.check(&[10, 10], &[0, 3]), 19, Some(1))?;
     refused(&rt, day.check(&[9, 9], &[0, 0]), 19, Some(0))?;
@@ -70,8 +65,7 @@ fn a_level_that_is_not_at_rest_is_refused(rt: HostRuntime) -> Result<(), Fail> {
 #[test]
 fn a_plan_has_a_level_and_a_lean_for_each_slot(rt: HostRuntime) -> Result<(), Fail> {
     let mut memory = bands();
-    let mut day = Day::open(&mut memory);
-    fill(&mut day, &bands())?;
+    let day = day_of(&mut memory, &bands())?;
     refused(&rt, day.check(&[1024], &[9, 9]), 15, None)?;
     refused(&rt, day.check(&[1024, 5], &[9]), 15, None)?;
     refused(&rt, day.check(&[1024, 5], &[9, 9, 9]), 15, None)
@@ -93,8 +87,7 @@ fn broken(
 fn rules_are_tried_in_their_order(rt: HostRuntime) -> Result<(), Fail> {
     let [first, second] = bands();
     let mut memory = [first, second, second];
-    let mut day = Day::open(&mut memory);
-    fill(&mut day, &[first, second, second])?;
+    let day = day_of(&mut memory, &[first, second, second])?;
     broken(&rt, &day, [5, 5, 1024], [9, 9, 9], 16, 2)?;
     broken(&rt, &day, [5, 1024, 1024], [9, 9, 9], 16, 1)?;
     broken(&rt, &day, [5, 6, 6], [0, 2, 4], 17, 2)?;

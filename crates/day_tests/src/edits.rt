@@ -1,6 +1,6 @@
 // Opening a day, and its edits.
 use crate::holding::refused;
-use crate::making::{band, fill, same, slot, square, squares, wide};
+use crate::making::{band, day_of, same, slot, square, squares, wide};
 use curve::written::Written;
 use day::day::Day;
 use slots::slot::Slot;
@@ -11,8 +11,7 @@ use std::test::Fail;
 fn a_day_holds_192_slots(rt: HostRuntime) -> Result<(), Fail> {
     let one = wide(square(1, 10), 4);
     let mut memory = [one; 200];
-    let mut day = Day::open(&mut memory);
-    fill(&mut day, &[one; 192])?;
+    let mut day = day_of(&mut memory, &[one; 192])?;
     assert_eq!(rt; day.slots().len(), 192);
     refused(&rt, day.add(one), 12, None)?;
     assert_eq!(rt; day.slots().len(), 192);
@@ -44,8 +43,7 @@ fn the_widest_numbers_are_accepted(rt: HostRuntime) -> Result<(), Fail> {
         slot(curve, 0, 1023, 1_000_000_000, 0),
     ];
     let mut memory = [wide(curve, 4); 4];
-    let mut day = Day::open(&mut memory);
-    fill(&mut day, &accepted)?;
+    let mut day = day_of(&mut memory, &accepted)?;
     assert!(rt; same(day.slots(), &accepted));
     for one in &accepted {
         day.replace(1, *one)?;
@@ -59,8 +57,7 @@ fn is_refused(rt: &impl Abort, one: Slot<Written>, number: u8) -> Result<(), Fai
     let [first, second, third] = squares(4);
     let mut memory = [first, second, third];
     {
-        let mut day = Day::open(&mut memory);
-        fill(&mut day, &[first, second])?;
+        let mut day = day_of(&mut memory, &[first, second])?;
         refused(rt, day.add(one), number, None)?;
         refused(rt, day.replace(1, one), number, None)?;
         assert!(rt; same(day.slots(), &[first, second]));
@@ -86,12 +83,11 @@ fn bounds_are_tried_before_tolls_and_tolls_before_room(rt: HostRuntime) -> Resul
 
 #[test]
 fn a_slot_that_is_not_there_is_refused_first(rt: HostRuntime) -> Result<(), Fail> {
-    let before = squares(4);
+    let [first, second, third] = squares(4);
     let good = slot(square(2, 30), 1, 9, 5, 6);
-    let mut memory = before;
+    let mut memory = [first, second, third];
     {
-        let mut day = Day::open(&mut memory);
-        fill(&mut day, &before[0..2])?;
+        let mut day = day_of(&mut memory, &[first, second])?;
         refused(&rt, day.replace(2, good), 13, None)?;
         refused(&rt, day.replace(usize::MAX, good), 13, None)?;
         refused(
@@ -101,7 +97,7 @@ fn a_slot_that_is_not_there_is_refused_first(rt: HostRuntime) -> Result<(), Fail
             None,
         )?;
         refused(&rt, day.replace(2, wide(square(1, 10), u32::MAX)), 13, None)?;
-        assert!(rt; same(day.slots(), &before[0..2]));
+        assert!(rt; same(day.slots(), &[first, second]));
     }
     {
         let mut empty = Day::open(&mut memory);
@@ -109,7 +105,7 @@ fn a_slot_that_is_not_there_is_refused_first(rt: HostRuntime) -> Result<(), Fail
         refused(&rt, empty.replace(0, good), 13, None)?;
         assert_eq!(rt; empty.slots().len(), 0);
     }
-    assert!(rt; same(&memory, &before));
+    assert!(rt; same(&memory, &[first, second, third]));
     Ok(())
 }
 
@@ -119,8 +115,7 @@ fn an_edit_writes_one_slot(rt: HostRuntime) -> Result<(), Fail> {
     let [first, second, third] = squares(4);
     let mut memory = [first, second, third, first];
     {
-        let mut day = Day::open(&mut memory);
-        fill(&mut day, &[first, second])?;
+        let mut day = day_of(&mut memory, &[first, second])?;
         day.replace(0, new)?;
         assert!(rt; same(day.slots(), &[new, second]));
         day.add(new)?;
@@ -136,8 +131,7 @@ fn a_drop_leaves_the_memory(rt: HostRuntime) -> Result<(), Fail> {
     let [first, second, third] = squares(4);
     let mut memory = [third, third, third, third];
     {
-        let mut day = Day::open(&mut memory);
-        fill(&mut day, &[first, second, new])?;
+        let mut day = day_of(&mut memory, &[first, second, new])?;
         day.drop()?;
         assert!(rt; same(day.slots(), &[first, second]));
         day.drop()?;

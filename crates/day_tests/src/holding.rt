@@ -1,5 +1,5 @@
 // How an answer is held to what was expected.
-use crate::making::{all_are, fill};
+use crate::making::{all_are, day_of};
 use curve::Curve;
 use day::day::Day;
 use slots::limits::{MOST_SLOTS, TABLE_LENGTH};
@@ -42,10 +42,10 @@ pub(crate) fn plan_is<C: Curve + Copy>(
     );
     let count = expected.len();
     assert!(rt; count <= MOST_SLOTS);
-    assert_eq!(rt; &levels[0..count], expected);
+    assert_eq!(rt; &levels[..count], expected);
     assert!(rt; all_are(&levels[count..], &7), "levels beyond the day");
     assert!(rt; all_are(&leans[count..], &-7), "leans beyond the day");
-    let checked = day.check(&levels[0..count], &leans[0..count])?;
+    let checked = day.check(&levels[..count], &leans[..count])?;
     assert_eq!(rt; checked.cost(), cost);
     assert_eq!(rt; checked.levels(), expected);
     Ok(())
@@ -59,7 +59,6 @@ pub(crate) fn slots_plan<C: Curve + Copy>(
     expected: &[u16],
     cost: i64,
 ) -> Result<(), Fail> {
-    let mut day = Day::open(memory);
-    fill(&mut day, slots)?;
+    let day = day_of(memory, slots)?;
     plan_is(rt, &day, expected, cost)
 }

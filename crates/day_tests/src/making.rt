@@ -49,12 +49,16 @@ pub(crate) fn bands() -> [Slot<Written>; 2] {
     [wide(band(5, 5, 3), 3), wide(band(9, 9, 3), 3)]
 }
 
-// Adds slots to a day, in their order.
-pub(crate) fn fill<C: Copy>(day: &mut Day<'_, C>, slots: &[Slot<C>]) -> Result<(), Refusal> {
+// A day of slots, over memory that has room for them.
+pub(crate) fn day_of<'m, C: Copy>(
+    memory: &'m mut [Slot<C>],
+    slots: &[Slot<C>],
+) -> Result<Day<'m, C>, Refusal> {
+    let mut day = Day::open(memory);
     for slot in slots {
         day.add(*slot)?;
     }
-    Ok(())
+    Ok(day)
 }
 
 fn alike(a: &Slot<Written>, b: &Slot<Written>) -> bool {
@@ -68,19 +72,9 @@ fn alike(a: &Slot<Written>, b: &Slot<Written>) -> bool {
 
 // Whether two runs of slots have the same bounds and tolls, and curves that begin alike.
 pub(crate) fn same(a: &[Slot<Written>], b: &[Slot<Written>]) -> bool {
-    for (one, other) in a.iter().zip(b.iter()) {
-        if !alike(one, other) {
-            return false;
-        }
-    }
-    a.len() == b.len()
+    a.len() == b.len() && a.iter().zip(b.iter()).all(|(one, other)| alike(one, other))
 }
 
 pub(crate) fn all_are<T: PartialEq>(items: &[T], value: &T) -> bool {
-    for item in items {
-        if *item != *value {
-            return false;
-        }
-    }
-    true
+    items.iter().all(|item| *item == *value)
 }

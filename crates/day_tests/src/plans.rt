@@ -1,6 +1,6 @@
 // The plan of a day.
 use crate::holding::{plan_is, refused, slots_plan};
-use crate::making::{all_are, band, bands, fill, slot, square, squares, wide};
+use crate::making::{all_are, band, bands, day_of, slot, square, squares, wide};
 use curve::fault::CurveFault;
 use curve::limits::TOP;
 use curve::pair::Pair;
@@ -50,8 +50,7 @@ fn a_plan_keeps_within_the_bounds(rt: HostRuntime) -> Result<(), Fail> {
 fn short_buffers_are_refused_and_kept(rt: HostRuntime) -> Result<(), Fail> {
     let heap = rt.alloc();
     let mut memory = squares(4);
-    let mut day = Day::open(&mut memory);
-    fill(&mut day, &squares(4))?;
+    let day = day_of(&mut memory, &squares(4))?;
     let lengths = [
         (2, 3, 1023, 6),
         (3, 2, 1023, 6),
@@ -59,21 +58,21 @@ fn short_buffers_are_refused_and_kept(rt: HostRuntime) -> Result<(), Fail> {
         (3, 3, 1023, 5),
         (0, 0, 0, 0),
     ];
-    for (level_count, lean_count, table_length, mark_count) in &lengths {
-        let mut levels = vec![in heap; 7u16; *level_count]?;
-        let mut leans = vec![in heap; -7i64; *lean_count]?;
-        let mut table = vec![in heap; 5i64; *table_length]?;
-        let mut marks = vec![in heap; 9u16; *mark_count]?;
+    for (level_count, lean_count, table_length, mark_count) in lengths {
+        let mut levels = vec![in heap; 7u16; level_count]?;
+        let mut leans = vec![in heap; -7i64; lean_count]?;
+        let mut table = vec![in heap; 5i64; table_length]?;
+        let mut marks = vec![in heap; 9u16; mark_count]?;
         refused(
             &rt,
             day.plan(&mut levels, &mut leans, &mut table, &mut marks),
             14,
             None,
         )?;
-        assert!(rt; levels.len() == *level_count && all_are(&levels, &7));
-        assert!(rt; leans.len() == *lean_count && all_are(&leans, &-7));
-        assert!(rt; table.len() == *table_length && all_are(&table, &5));
-        assert!(rt; marks.len() == *mark_count && all_are(&marks, &9));
+        assert!(rt; levels.len() == level_count && all_are(&levels, &7));
+        assert!(rt; leans.len() == lean_count && all_are(&leans, &-7));
+        assert!(rt; table.len() == table_length && all_are(&table, &5));
+        assert!(rt; marks.len() == mark_count && all_are(&marks, &9));
     }
     let (mut levels, mut leans) = ([7u16; 3], [-7i64; 3]);
     let cost = day.plan(&mut levels, &mut leans, &mut [5; 1023], &mut [9; 6])?;
@@ -129,7 +128,7 @@ fn main_slot(target: u16) -> Result<Slot<Main>, CurveFault> {
 fn pairs_of_pairs_are_planned(rt: HostRuntime) -> Result<(), Fail> {
     let slots = [main_slot(10)?, main_slot(20)?];
     let mut memory = slots;
-    slots_plan(&rt, &mut memory, &slots[0..1], &[8], 27)?;
+    slots_plan(&rt, &mut memory, &slots[..1], &[8], 27)?;
     slots_plan(&rt, &mut memory, &slots[1..2], &[18], 107)?;
     slots_plan(&rt, &mut memory, &slots, &[10, 15], 210)
 }

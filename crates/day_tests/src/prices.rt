@@ -1,6 +1,6 @@
 // What a plan costs.
 use crate::holding::refused;
-use crate::making::{fill, slot, square, squares, wide};
+use crate::making::{day_of, slot, square, squares, wide};
 use day::day::Day;
 use std::test::Fail;
 
@@ -8,8 +8,7 @@ use std::test::Fail;
 fn curves_and_tolls_are_summed(rt: HostRuntime) -> Result<(), Fail> {
     let slots = squares(4);
     let mut memory = slots;
-    let mut day = Day::open(&mut memory);
-    fill(&mut day, &slots)?;
+    let day = day_of(&mut memory, &slots)?;
     assert_eq!(rt; day.price(&[12, 16, 12])?, 56);
     assert_eq!(rt; day.price(&[10, 20, 10])?, 80);
     assert_eq!(rt; day.price(&[0, 0, 0])?, 600);
@@ -26,8 +25,7 @@ fn each_way_has_its_toll(rt: HostRuntime) -> Result<(), Fail> {
         slot(square(1, 0), 0, 1023, 7, 11),
     ];
     let mut memory = slots;
-    let mut day = Day::open(&mut memory);
-    fill(&mut day, &slots)?;
+    let day = day_of(&mut memory, &slots)?;
     assert_eq!(rt; day.price(&[1, 3, 1])?, 1 + 9 + 1 + 2 * 30 + 2 * 11);
     assert_eq!(rt; day.price(&[3, 1, 3])?, 9 + 1 + 9 + 2 * 500 + 2 * 7);
     Ok(())
@@ -37,8 +35,7 @@ fn each_way_has_its_toll(rt: HostRuntime) -> Result<(), Fail> {
 fn a_plan_has_a_level_for_each_slot(rt: HostRuntime) -> Result<(), Fail> {
     let slots = squares(4);
     let mut memory = slots;
-    let mut day = Day::open(&mut memory);
-    fill(&mut day, &slots)?;
+    let day = day_of(&mut memory, &slots)?;
     refused(&rt, day.price(&[]), 15, None)?;
     refused(&rt, day.price(&[12, 16]), 15, None)?;
     refused(&rt, day.price(&[12, 16, 12, 12]), 15, None)?;
@@ -53,8 +50,7 @@ fn the_earliest_slot_out_of_bounds_is_named(rt: HostRuntime) -> Result<(), Fail>
         slot(square(1, 10), 0, 1023, 4, 4),
     ];
     let mut memory = slots;
-    let mut day = Day::open(&mut memory);
-    fill(&mut day, &slots)?;
+    let day = day_of(&mut memory, &slots)?;
     assert_eq!(rt; day.price(&[5, 6, 0])?, 25 + 16 + 100 + 4 + 24);
     assert_eq!(rt; day.price(&[9, 6, 10])?, 1 + 16 + 12 + 16);
     refused(&rt, day.price(&[4, 7, 1024]), 16, Some(0))?;

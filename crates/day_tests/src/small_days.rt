@@ -2,7 +2,7 @@
 ghost use Rattle.std.specs.Prelude.{◌<◌};
 
 use crate::holding::plan_is;
-use crate::making::{fill, slot};
+use crate::making::day_of;
 use curve::Curve;
 use curve::pair::Pair;
 use curve::written::Written;
@@ -26,13 +26,13 @@ impl Chance {
             .state
             .wrapping_mul(6_364_136_223_846_793_005)
             .wrapping_add(1_442_695_040_888_963_407);
-        ((self.state >> 33) % bound as u64) as u16
+        ((self.state >> 33) % u64::from(bound)) as u16
     }
 
     fn curve(&mut self) -> Written {
         match self.below(3) {
             0 => Written::Square {
-                weight: 1 + self.below(3) as u32,
+                weight: 1 + u32::from(self.below(3)),
                 target: self.below(7),
             },
             1 => {
@@ -40,16 +40,16 @@ impl Chance {
                 Written::Band {
                     cold,
                     warm: cold.max(self.below(6)),
-                    cold_rate: self.below(5) as u32,
-                    warm_rate: self.below(5) as u32,
+                    cold_rate: u32::from(self.below(5)),
+                    warm_rate: u32::from(self.below(5)),
                 }
             }
             _ => {
-                let first = self.below(6) as i32 - 5;
-                let second = first + self.below(4) as i32;
-                let third = second + self.below(4) as i32;
+                let first = i32::from(self.below(6)) - 5;
+                let second = first + i32::from(self.below(4));
+                let third = second + i32::from(self.below(4));
                 Written::Knees {
-                    ground: self.below(9) as i64 - 4,
+                    ground: i64::from(self.below(9)) - 4,
                     first,
                     count: 1 + self.below(2) as u8,
                     levels: [1 + self.below(2), 3, 0, 0, 0, 0],
@@ -59,14 +59,20 @@ impl Chance {
         }
     }
 
+    // A slot of any kind.
+    fn any(&mut self) -> Slot<Written> {
+        let curve = self.curve();
+        self.slot(curve)
+    }
+
     fn slot<C>(&mut self, curve: C) -> Slot<C> {
         let low = self.below(5);
         Slot {
             curve,
             low,
             high: low.max(self.below(5)),
-            up: self.below(6) as u32,
-            down: self.below(6) as u32,
+            up: u32::from(self.below(6)),
+            down: u32::from(self.below(6)),
         }
     }
 }
@@ -80,17 +86,13 @@ fn levels_of(turn: u16) -> [u16; 3] {
 fn cheapest_of_all<C: Curve + Copy>(day: &Day<'_, C>, unused: usize) -> Option<(i64, u16)>
     requires { unused < 4 }
 {
-    let mut best = None;
-    for turn in 0..125u16 {
-        let levels = levels_of(turn);
-        if let Ok(cost) = day.price(&levels[unused..]) {
-            best = match best {
-                Some((least, first)) if least <= cost => Some((least, first)),
-                _ => Some((cost, turn)),
-            };
-        }
-    }
-    best
+    (0..125u16)
+        .filter_map(|turn| {
+            let levels = levels_of(turn);
+            let cost = day.price(&levels[unused..]).ok()?;
+            Some((cost, turn))
+        })
+        .min()
 }
 
 fn plan_is_found<C: Curve + Copy>(
@@ -100,8 +102,7 @@ fn plan_is_found<C: Curve + Copy>(
 ) -> Result<(), Fail> {
     assert!(rt; slots.len() <= 3);
     let unused = 3 - slots.len();
-    let mut day = Day::open(memory);
-    fill(&mut day, slots)?;
+    let day = day_of(memory, slots)?;
     let (cost, turn) = cheapest_of_all(&day, unused).ok_or("no plan lies within the bounds")?;
     let levels = levels_of(turn);
     plan_is(rt, &day, &levels[unused..], cost)
@@ -110,23 +111,10 @@ fn plan_is_found<C: Curve + Copy>(
 #[test]
 fn small_days_have_the_plan_that_trying_all_finds(rt: HostRuntime) -> Result<(), Fail> {
     let mut chance = Chance { state: 1 };
-    for number in 0..600u16 {
-        let mut slots = [slot(
-            Written::Square {
-                weight: 1,
-                target: 0,
-            },
-            0,
-            4,
-            0,
-            0,
-        ); 3];
-        for one in slots.iter_mut() {
-            let curve = chance.curve();
-            *one = chance.slot(curve);
-        }
+    for number in 0..600usize {
+        let slots = [chance.any(), chance.any(), chance.any()];
         let mut memory = slots;
-        plan_is_found(&rt, &mut memory, &slots[number as usize % 3..])?;
+        plan_is_found(&rt, &mut memory, &slots[number % 3..])?;
     }
     Ok(())
 }
@@ -134,13 +122,13 @@ fn small_days_have_the_plan_that_trying_all_finds(rt: HostRuntime) -> Result<(),
 #[test]
 fn small_days_of_pairs_have_the_plan_that_trying_all_finds(rt: HostRuntime) -> Result<(), Fail> {
     let mut chance = Chance { state: 2 };
-    for number in 0..300u16 {
+    for number in 0..300usize {
         let first = Pair::new(chance.curve(), chance.curve())?;
         let second = Pair::new(chance.curve(), chance.curve())?;
         let third = Pair::new(chance.curve(), chance.curve())?;
         let slots = [chance.slot(first), chance.slot(second), chance.slot(third)];
         let mut memory = slots;
-        plan_is_found(&rt, &mut memory, &slots[number as usize % 3..])?;
+        plan_is_found(&rt, &mut memory, &slots[number % 3..])?;
     }
     Ok(())
 }
