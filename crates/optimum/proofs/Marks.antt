@@ -1,7 +1,7 @@
 -- The sweep as a program makes it: the thresholds of each slot are stored, and the levels are found from them alone.
 use Rattle.std.proofs.Common.{◌≡◌, ℕ, ◌<◌, ◌≤◌, List, [], ◌∷◌, get_or, ℤ, pos, refl, ap}
 use Rattle.optimum.specs.Plans.{Terms}
-use Rattle.optimum.proofs.Sweep.{first_level, held, walk, next_message, first_threshold, second_threshold}
+use Rattle.optimum.proofs.Sweep.{first_level, held, walk, next_message, first_threshold, second_threshold, level_before}
 
 -- a table holds a message at the levels from low up to high
 abbrev pub Between : ℕ → ℕ → List ℤ → (ℕ → ℤ) → Type 0
@@ -13,20 +13,20 @@ Holds [] table message = Unit {0}
 Holds (t ∷ ts) table message = Between t.low t.high table message
 
 -- the two thresholds of each slot, in their order
-unfoldable pub marks : (ℕ → ℤ) → List Terms → List ℕ
+unfoldable pub marks : (ℕ → ℤ) → List Terms → List (List ℕ)
 marks message [] = []
-marks message (t ∷ ts) = first_threshold message t ts ∷ (second_threshold message t ts ∷ marks (next_message message t ts) ts)
+marks message (t ∷ ts) = (first_threshold message t ts ∷ (second_threshold message t ts ∷ [])) ∷ marks (next_message message t ts) ts
+
+-- the level of a slot with two thresholds, where that of the next slot is v
+abbrev pub held_between : List ℕ → ℕ → ℕ
+held_between mark v = held (get_or mark 0 0) (get_or mark 1 0) v
 
 -- the levels that such thresholds give, from the last slot back to the first
-unfoldable pub walk_back : List ℕ → List ℕ
+unfoldable pub walk_back : List (List ℕ) → List ℕ
 walk_back [] = []
-walk_back (a ∷ []) = []
-walk_back (a ∷ (b ∷ more)) = let xs : List ℕ = walk_back more in held a b (first_level xs) ∷ xs
+walk_back (mark ∷ more) = let xs : List ℕ = walk_back more in held_between mark (first_level xs) ∷ xs
 
 pub walk_back_marks : (message : ℕ → ℤ) (ts : List Terms) → walk_back (marks message ts) ≡ walk message ts
 unfolding marks walk_back walk
 walk_back_marks message [] = refl
-walk_back_marks message (t ∷ ts) =
-    ap
-    (λ (xs : List ℕ). held (first_threshold message t ts) (second_threshold message t ts) (first_level xs) ∷ xs)
-    (walk_back_marks (next_message message t ts) ts)
+walk_back_marks message (t ∷ ts) = ap (λ (xs : List ℕ). level_before message t ts (first_level xs) ∷ xs) (walk_back_marks (next_message message t ts) ts)

@@ -1,6 +1,5 @@
 -- What the sweep, the walk back and the passes over leans give together: the plan of the day, with leans that obey the rules.
-use Rattle.std.proofs.Common.{◌≡◌, ℕ, ◌*◌, List, ◌++◌, length, take, drop, pos, None, sym, ap, ◌∙◌, subst, arith, take_all}
-use lib.Seq.{take-append-le, drop-append_seam}
+use Rattle.std.proofs.Common.{◌≡◌, ℕ, List, length, pos, None, sym, ◌∙◌, subst}
 use Rattle.std.specs.List.{AllByRecursion}
 use Rattle.optimum.specs.Coldest.{plan}
 use Rattle.optimum.specs.Leans.{Obeys}
@@ -8,19 +7,11 @@ use Rattle.optimum.specs.Plans.{Terms, Within}
 use Rattle.optimum.specs.Theorems.{Convex, Open}
 use Rattle.optimum.proofs.LeanPasses.{forward, backward}
 use Rattle.optimum.proofs.LeansObey.{leans_obey}
-use Rattle.optimum.proofs.Lengths.{within_length, marks_length}
+use Rattle.optimum.proofs.Lengths.{within_length}
 use Rattle.optimum.proofs.Marks.{marks, walk_back, walk_back_marks}
 use Rattle.optimum.proofs.Plan.{plan_found, plan_is_coldest}
 use Rattle.optimum.proofs.Start.{walk_from_none}
 use Rattle.optimum.proofs.Sweep.{walk}
-
--- the first of a list that begins with another
-pub front : {X : Type 0} (n : ℕ) (xs ys : List X) → n ≡ length xs → take n (xs ++ ys) ≡ xs
-front n xs ys same = take-append-le n xs ys (omega arith) ∙ take_all n xs (omega arith)
-
--- and what is behind it
-pub behind : {X : Type 0} (n : ℕ) (xs ys : List X) → n ≡ length xs → drop n (xs ++ ys) ≡ ys
-behind n xs ys same = rw same (drop-append_seam xs ys)
 
 module _ (ts : List Terms) (convex : AllByRecursion Convex ts) (opens : AllByRecursion Open ts) where
   -- the plan is what the walk finds
@@ -34,10 +25,8 @@ module _ (ts : List Terms) (convex : AllByRecursion Convex ts) (opens : AllByRec
   plan_length = within_length ts (plan None ts) plan_within
 
   -- the walk back over the thresholds finds the plan
-  pub plan_from_marks : (n : ℕ) (rest : List ℕ) → n ≡ length ts → walk_back (take (2 * n) (marks (λ _. pos 0) ts ++ rest)) ≡ plan None ts
-  plan_from_marks n rest same =
-      let many = marks_length (λ _. pos 0) ts in
-      ap walk_back (front (2 * n) (marks (λ _. pos 0) ts) rest (omega arith)) ∙ walk_back_marks (λ _. pos 0) ts ∙ sym plan_walk
+  pub plan_from_marks : walk_back (marks (λ _. pos 0) ts) ≡ plan None ts
+  plan_from_marks = walk_back_marks (λ _. pos 0) ts ∙ sym plan_walk
 
   -- the two passes find leans that obey the rules with the plan
   pub plan_leans : Obeys None ts (plan None ts) (backward ts (plan None ts) (forward ts (plan None ts)))

@@ -4,10 +4,8 @@ pub mod FirstLevels
 pub mod ForwardPass
 pub mod ProperSlots
 pub mod SlotPlans
-pub mod SlotReads
 pub mod SlotSizes
 pub mod SlotSweeps
 pub mod Swept
 pub mod Tables
 pub mod Walks
-pub mod Within

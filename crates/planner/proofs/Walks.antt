@@ -1,33 +1,42 @@
 -- The walk back over stored marks, one slot at a time.
-use Rattle.std.proofs.Common.{◌≡◌, ℕ, ◌+◌, ◌*◌, ◌<◌, ◌≤◌, List, ◌∷◌, ◌++◌, length, get_or, drop, set, refl, arith}
-use Rattle.std.proofs.lemmas.List.{drop_more, drop_all, drop-set}
-use Rattle.optimum.proofs.Marks.{walk_back}
-use Rattle.optimum.proofs.Sweep.{first_level, held}
+use Rattle.std.proofs.Common.{◌≡◌, ℕ, List, [], ◌∷◌, ◌++◌, length, drop, set, sym, refl, append_assoc, arith, length-append}
+use Rattle.std.proofs.lemmas.List.{append-nil, drop_all, drop-set, nil_from_length}
+use Rattle.optimum.proofs.Marks.{held_between, walk_back}
+use Rattle.optimum.proofs.Sweep.{first_level}
 
--- the levels from slot i on are found, and level is the first of them
-abbrev pub Walked : List ℕ → List ℕ → ℕ → List ℕ → ℕ → Type 0
-Walked marks past i levels level =
-    (drop i levels ≡ walk_back (drop (2 * i) marks) ++ past) × (level ≡ first_level (walk_back (drop (2 * i) marks)))
+-- the marks in `left` are still to be walked over, the levels behind them are found, and level is the first of those
+pub record Walked (marks left : List (List ℕ)) (levels : List ℕ) (level : ℕ) : Type 0 where
+  pub done : List (List ℕ)
+  pub all : marks ≡ left ++ done
+  pub found : drop (length left) levels ≡ walk_back done
+  pub first : level ≡ first_level (walk_back done)
 
--- where there are no marks, no level is found
-pub walked_none : (marks past : List ℕ) (i : ℕ) (levels : List ℕ) → length marks ≤ 2 * i → drop i levels ≡ past → Walked marks past i levels 0
-unfolding walk_back first_level
-walked_none marks past i levels none rest = rw (drop_all (2 * i) marks none) (rest, refl)
+module _ {marks : List (List ℕ)} where
+  -- at first none is found
+  pub walked_none : (levels : List ℕ) → length levels ≡ length marks → Walked marks marks levels 0
+  unfolding walk_back first_level
+  walked_none levels each = record { done = []; all = sym (append-nil marks); found = drop_all (length marks) levels (omega arith); first = refl }
 
--- the two marks of a slot and the levels behind it give its level
-walk_more :
-    (marks : List ℕ) (i : ℕ) → 2 * i + 1 < length marks →
-    walk_back (drop (2 * i) marks)
-    ≡ held (get_or marks (2 * i) 0) (get_or marks (2 * i + 1) 0) (first_level (walk_back (drop (2 * (i + 1)) marks))) ∷ walk_back (drop (2 * (i + 1)) marks)
-unfolding walk_back
-walk_more marks i inside =
-    let next : 2 * (i + 1) ≡ 2 * i + 1 + 1 = omega arith in
-    rw (next, drop_more marks (2 * i) 0 (omega arith), drop_more marks (2 * i + 1) 0 inside)
+  -- one slot more
+  pub walked_more :
+      {left : List (List ℕ)} {levels : List ℕ} {level : ℕ} → Walked marks left levels level → (rest : List (List ℕ)) (mark : List ℕ) (found : ℕ) →
+      left ≡ rest ++ (mark ∷ []) → length levels ≡ length marks → found ≡ held_between mark level → Walked marks rest (set levels (length rest) found) found
+  unfolding walk_back first_level
+  walked_more {left} {levels} walked rest mark found more each is =
+      let all = rw (more, append_assoc) at walked.all in
+      let long = rw (all, length-append) at each in
+      let behind = rw (more, length-append) at walked.found in
+      record {
+        done = mark ∷ walked.done;
+        all = all;
+        found = rw (drop-set levels (length rest) found (omega arith), behind, is, walked.first);
+        first = rw (← walked.first) is;
+      }
 
--- one slot more
-pub walked_more :
-    (marks past : List ℕ) (i : ℕ) (levels : List ℕ) (level found : ℕ) → 2 * i + 1 < length marks → i < length levels →
-    found ≡ held (get_or marks (2 * i) 0) (get_or marks (2 * i + 1) 0) level → Walked marks past (i + 1) levels level → Walked marks past i (set levels i found) found
-unfolding first_level
-walked_more marks past i levels level found inside room is walked =
-    rw (walk_more marks i inside, ← walked.1, ← is) (rw (drop-set levels i found room, walked.0), refl)
+  -- in the end all are
+  pub walked_all : {left : List (List ℕ)} {levels : List ℕ} {level : ℕ} → Walked marks left levels level → length left ≡ 0 → levels ≡ walk_back marks
+  walked_all {left} walked end =
+      let none = nil_from_length left end in
+      let found = rw none at walked.found in
+      let all = rw none at walked.all in
+      rw (all, found)

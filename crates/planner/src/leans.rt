@@ -1,14 +1,15 @@
 // Leans for a plan, by one pass forward and one back.
-ghost use Rattle.std.specs.Prelude.{◌≡◌, ◌*◌, ◌≤◌, true, ◌++◌, length, take, drop};
+ghost use Rattle.std.specs.Prelude.{◌≡◌, ◌*◌, ◌≤◌, true, length};
 ghost use Rattle.std.specs.List.{AllByRecursion};
 ghost use Rattle.optimum.proofs.LeanPasses.{forward_lean, backward_lean, forward, backward};
 ghost use Rattle.optimum.proofs.LeanSizes.{Sized};
 ghost use Rattle.optimum.specs.Plans.{Within};
 ghost use Rattle.slots.specs.Limits.{most_slots, toll_limit};
 ghost use Rattle.slots.specs.SlotTerms.{slot_terms, day_terms};
-ghost use Rattle.slots.specs.Slots.{proper, all_proper};
+ghost use Rattle.slots.specs.Slots.{proper};
 
 use curve::Curve;
+use slots::list::Slots;
 use slots::slot::Slot;
 
 // The least lean of a slot as far as the slots before it are concerned.
@@ -29,19 +30,19 @@ fn forward_lean<C: Curve>(before: &Slot<C>, from: u16, lean: i64, slot: &Slot<C>
     }
 }
 
-pub(crate) fn lean_forward<C: Curve>(slots: &[Slot<C>], levels: &[u16], leans: &mut [i64])
-    requires few { length slots.now ≤ most_slots }
-    requires proper { all_proper slots.now ≡ true }
-    requires within { Within (day_terms C.Curve.ground C.Curve.steps slots.now) levels.now }
-    requires room { length slots.now ≤ length leans.old }
-    ensures { leans.new ≡ forward (day_terms C.Curve.ground C.Curve.steps slots.now) levels.now ++ drop (length slots.now) leans.old }
+pub(crate) fn lean_forward<C: Curve>(slots: &Slots<C>, levels: &[u16], leans: &mut [i64])
+    requires within { Within (day_terms C.Curve.ground C.Curve.steps slots.now.list.now) levels.now }
+    requires lean_each { length leans.old ≡ length slots.now.list.now }
+    ensures { leans.new ≡ forward (day_terms C.Curve.ground C.Curve.steps slots.now.list.now) levels.now }
 {
-    let mut lean = 0;
-    for i in 0..slots.len() {
+    let mut before = None;
+    for (i, (slot, level)) in slots.list.iter().zip(levels.iter()).enumerate() {
+        let lean = match before {
+            None => 0,
+            Some((before, from, lean)) => forward_lean(before, from, lean, slot, *level),
+        };
         leans[i] = lean;
-        if i + 1 < slots.len() {
-            lean = forward_lean(&slots[i], levels[i], lean, &slots[i + 1], levels[i + 1]);
-        }
+        before = Some((slot, *level, lean));
     }
 }
 
@@ -58,17 +59,15 @@ fn backward_lean<C: Curve>(slot: &Slot<C>, level: u16, lean: i64, next: i64) -> 
     }
 }
 
-pub(crate) fn lean_backward<C: Curve>(slots: &[Slot<C>], levels: &[u16], leans: &mut [i64])
-    requires few { length slots.now ≤ most_slots }
-    requires proper { all_proper slots.now ≡ true }
-    requires one_each { length levels.now ≡ length slots.now }
-    requires room { length slots.now ≤ length leans.old }
-    requires small { AllByRecursion (Sized (most_slots * toll_limit)) (take (length slots.now) leans.old) }
-    ensures { leans.new ≡ backward (day_terms C.Curve.ground C.Curve.steps slots.now) levels.now (take (length slots.now) leans.old) ++ drop (length slots.now) leans.old }
+pub(crate) fn lean_backward<C: Curve>(slots: &Slots<C>, levels: &[u16], leans: &mut [i64])
+    requires level_each { length levels.now ≡ length slots.now.list.now }
+    requires lean_each { length leans.old ≡ length slots.now.list.now }
+    requires small { AllByRecursion (Sized (most_slots * toll_limit)) leans.old }
+    ensures { leans.new ≡ backward (day_terms C.Curve.ground C.Curve.steps slots.now.list.now) levels.now leans.old }
 {
     let mut next = 0;
-    for i in (0..slots.len()).rev() {
-        next = backward_lean(&slots[i], levels[i], leans[i], next);
+    for (i, (slot, level)) in slots.list.iter().zip(levels.iter()).enumerate().rev() {
+        next = backward_lean(slot, *level, leans[i], next);
         leans[i] = next;
     }
 }

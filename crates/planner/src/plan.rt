@@ -16,59 +16,26 @@ use curve::Curve;
 use slots::limits::TABLE_LENGTH;
 use slots::list::Slots;
 use slots::refusal::Refusal;
-use slots::slot::Slot;
 
-// The levels of the plan.
-fn plan_levels<C: Curve>(
-    slots: &[Slot<C>],
-    levels: &mut [u16],
-    table: &mut [i64],
-    marks: &mut [u16],
-)
-    requires few { length slots.now ≤ most_slots }
-    requires proper { all_proper slots.now ≡ true }
-    requires room { length slots.now ≤ length levels.old }
-    requires long { table_length ≤ length table.old }
-    requires marked { 2 * length slots.now ≤ length marks.old }
-    ensures { levels.new ≡ plan None (day_terms C.Curve.ground C.Curve.steps slots.now) ++ drop (length slots.now) levels.old }
-{
-    sweep(slots, table, marks);
-    walk_back(marks, slots.len(), levels);
-}
-
-// Leans that obey the rules with the plan.
-fn plan_leans<C: Curve>(slots: &[Slot<C>], levels: &[u16], leans: &mut [i64])
-    requires few { length slots.now ≤ most_slots }
-    requires proper { all_proper slots.now ≡ true }
-    requires planned { levels.now ≡ plan None (day_terms C.Curve.ground C.Curve.steps slots.now) }
-    requires room { length slots.now ≤ length leans.old }
-    ensures obeys { Obeys None (day_terms C.Curve.ground C.Curve.steps slots.now) (plan None (day_terms C.Curve.ground C.Curve.steps slots.now)) (take (length slots.now) leans.new) }
-    ensures beyond { drop (length slots.now) leans.new ≡ drop (length slots.now) leans.old }
-{
-    lean_forward(slots, levels, leans);
-    lean_backward(slots, levels, leans);
-}
-
-// The plan of slots for which the buffers are long enough.
+// The plan of slots, where each buffer is as long as the day.
 fn plan_with_room<C: Curve>(
     slots: &Slots<C>,
     levels: &mut [u16],
     leans: &mut [i64],
-    table: &mut [i64],
-    marks: &mut [u16],
+    table: &mut [i64; TABLE_LENGTH],
+    marks: &mut [[u16; 2]],
 ) -> Result<i64, Refusal>
-    requires level_each { length slots.now.list.now ≤ length levels.old }
-    requires lean_each { length slots.now.list.now ≤ length leans.old }
-    requires long { table_length ≤ length table.old }
-    requires marked { 2 * length slots.now.list.now ≤ length marks.old }
+    requires level_each { length levels.old ≡ length slots.now.list.now }
+    requires lean_each { length leans.old ≡ length slots.now.list.now }
+    requires mark_each { length marks.old ≡ length slots.now.list.now }
     ensures cost { result ≡ Ok (price None (day_terms C.Curve.ground C.Curve.steps slots.now.list.now) (plan None (day_terms C.Curve.ground C.Curve.steps slots.now.list.now))) }
-    ensures levels { levels.new ≡ plan None (day_terms C.Curve.ground C.Curve.steps slots.now.list.now) ++ drop (length slots.now.list.now) levels.old }
-    ensures obeys { Obeys None (day_terms C.Curve.ground C.Curve.steps slots.now.list.now) (plan None (day_terms C.Curve.ground C.Curve.steps slots.now.list.now)) (take (length slots.now.list.now) leans.new) }
-    ensures beyond { drop (length slots.now.list.now) leans.new ≡ drop (length slots.now.list.now) leans.old }
+    ensures levels { levels.new ≡ plan None (day_terms C.Curve.ground C.Curve.steps slots.now.list.now) }
+    ensures obeys { Obeys None (day_terms C.Curve.ground C.Curve.steps slots.now.list.now) (plan None (day_terms C.Curve.ground C.Curve.steps slots.now.list.now)) leans.new }
 {
-    plan_levels(slots.list, levels, table, marks);
-    let levels = &levels[0..slots.list.len()];
-    plan_leans(slots.list, levels, leans);
+    sweep(slots, table, marks);
+    walk_back(marks, levels);
+    lean_forward(slots, levels, leans);
+    lean_backward(slots, levels, leans);
     slots.price(levels)
 }
 
@@ -87,12 +54,15 @@ pub fn plan_slots<C: Curve>(
     ensures marks { Spent (short_for (length slots.now.list.now) levels.old leans.old table.old marks.old) marks.old marks.new }
 {
     let count = slots.list.len();
-    if levels.len() < count
-        || leans.len() < count
-        || table.len() < TABLE_LENGTH
-        || marks.len() < 2 * count
-    {
+    if levels.len() < count || leans.len() < count || marks.len() < 2 * count {
         return Err(Refusal::Short);
     }
+    let Some(table) = table.first_chunk_mut() else {
+        return Err(Refusal::Short);
+    };
+    let (marks, _) = marks.as_chunks_mut::<2>();
+    let levels = &mut levels[..count];
+    let leans = &mut leans[..count];
+    let marks = &mut marks[..count];
     plan_with_room(slots, levels, leans, table, marks)
 }

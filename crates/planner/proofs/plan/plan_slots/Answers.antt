@@ -1,29 +1,29 @@
-use Rattle.std.proofs.Common.{◌≡◌, ℕ, ◌++◌, length, take, drop, None, Option, sym, ap, ◌∙◌, subst, arith}
-use Rattle.std.proofs.lemmas.List.{length-map}
+use Rattle.std.proofs.Common.{◌≡◌, ℕ, ◌*◌, ◌≤◌, length, drop, None, refl, arith}
+use Rattle.std.proofs.lemmas.List.{length-map, take_at, drop_at}
 use Rattle.std.proofs.lemmas.Bool.Decides.{nat_tests}
-use Rattle.optimum.specs.Coldest.{plan}
-use Rattle.optimum.specs.Leans.{Obeys}
-use Rattle.optimum.specs.Plans.{price}
-use Rattle.slots.specs.Refusals.{told}
-use Rattle.slots.specs.SlotTerms.{slot_terms, day_terms}
-use Rattle.slots.specs.declared.refusal.Refusal.{Refusal}
-use Rattle.planner.specs.Planning.{plan_refusal, planned, Leaned, Spent}
-use Rattle.planner.proofs.SlotPlans.{planned_length}
+use Rattle.slots.specs.Limits.{table_length}
+use Rattle.slots.specs.SlotTerms.{slot_terms}
+use Rattle.planner.specs.Planning.{plan_refusal}
+use Rattle.planner.proofs.SlotPlans.{plan_of}
 use Rattle.planner.proofs.plan.plan_slots.Goals as goal
 
-pub returns : goal.returns
-returns g c =
+-- where the buffers are long enough, nothing is refused
+accepted : (n levels leans table marks : ℕ) → n ≤ levels → n ≤ leans → table_length ≤ table → 2 * n ≤ marks → plan_refusal n levels leans table marks ≡ None
+accepted n levels leans table marks levels_fit leans_fit table_fits marks_fit = grind (arith, nat_tests)
+
+pub returns-clause-levels : goal.returns-clause-levels
+returns-clause-levels g c =
+    let slots = c.args.slots.now in
+    let best = plan_of g.C.Curve.ground g.C.Curve.steps g.met.C.Curve.rising g.met.C.Curve.bounded slots.list.now slots.few slots.proper in
+    let room = accepted _ _ _ _ _ c.if-levels-count.false c.if-leans-count.false c.in-Some.ensures.cases.enough c.if-marks-count.false in
+    rw (room, c.plan_with_room.ensures.levels, best.each)
+
+pub returns-clause-leans : goal.returns-clause-leans
+returns-clause-leans g c =
     let slots = c.args.slots.now.list.now in
-    let ts = day_terms g.C.Curve.ground g.C.Curve.steps slots in
-    let each = planned_length g.C.Curve.ground g.C.Curve.steps g.met.C.Curve.rising g.met.C.Curve.bounded slots c.args.slots.now.proper in
+    let room = accepted _ _ _ _ _ c.if-levels-count.false c.if-leans-count.false c.in-Some.ensures.cases.enough c.if-marks-count.false in
     let all = length-map slots (slot_terms g.C.Curve.ground g.C.Curve.steps) in
-    let accepted : plan_refusal (length slots) (length c.args.levels.now) (length c.args.leans.now) (length c.args.table.now) (length c.args.marks.now) ≡ None = grind (arith, nat_tests) in
-    let made = c.plan_with_room.ensures in
     let leans = c.plan_with_room.new.leans in
-    record {
-      answer = made.cost ∙ ap (λ (r : Option Refusal). told r (price None ts (plan None ts))) (sym accepted);
-      levels = made.levels ∙ ap (λ (k : ℕ). plan None ts ++ drop k c.args.levels.now) (sym each) ∙ ap (λ (r : Option Refusal). planned r (plan None ts) c.args.levels.now) (sym accepted);
-      leans = subst (λ (r : Option Refusal). Leaned r ts c.args.leans.now leans) (sym accepted) (subst (λ (k : ℕ). Obeys None ts (plan None ts) (take k leans) × (drop k leans ≡ drop k c.args.leans.now)) (sym all) (made.obeys, made.beyond));
-      table = subst (λ (r : Option Refusal). Spent r c.args.table.now c.plan_with_room.new.table) (sym accepted) tt;
-      marks = subst (λ (r : Option Refusal). Spent r c.args.marks.now c.plan_with_room.new.marks) (sym accepted) tt;
-    }
+    let rest = drop (length slots) c.args.leans.now in
+    let many : length leans ≡ length slots = omega arith in
+    rw (room, all, take_at leans rest (length slots) many, drop_at leans rest (length slots) many) (c.plan_with_room.ensures.obeys, refl)

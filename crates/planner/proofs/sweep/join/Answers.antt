@@ -7,7 +7,7 @@ use Rattle.planner.proofs.Tables.{filled_none, filled_next, filled_more}
 use Rattle.planner.proofs.sweep.join.Goals as goal
 
 pub loop-level-init : goal.loop-level-init
-loop-level-init g c = filled_none
+loop-level-init g c = filled_none (omega arith)
 
 pub overflow_add-table : goal.overflow_add-table
 overflow_add-table g c =
@@ -26,7 +26,7 @@ loop-level-preserved g c =
     let same = filled_next c.loop-level.invariant below in
     let asked = rw (min-eq_left below) at c.step.ensures in
     let fits = overflow_add-table g c in
-    filled_more c.loop-level.invariant (omega arith) (omega arith) (omega (arith, ints))
+    filled_more c.loop-level.invariant (omega arith) below (omega (arith, ints))
 
 pub returns : goal.returns
 returns g c =

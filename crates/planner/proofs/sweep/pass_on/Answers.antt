@@ -8,7 +8,7 @@ use Rattle.planner.proofs.sweep.pass_on.Goals as goal
 use Rattle.planner.proofs.sweep.pass_on.Goals.{then-level-slot, else-level-slot+then-level-slot-2, else-level-slot+else-level-slot-2}
 
 pub loop-level-init : goal.loop-level-init
-loop-level-init g c = filled_none
+loop-level-init g c = filled_none (omega arith)
 
 pub loop-level-preserved : goal.loop-level-preserved
 loop-level-preserved g c =
@@ -16,7 +16,7 @@ loop-level-preserved g c =
     let level = c.loop-level.level in
     let below : level ≤ last_step = grind (arith, nat_tests) in
     let same = filled_next c.loop-level.invariant below in
-    filled_more c.loop-level.invariant (omega arith) (omega arith) (
+    filled_more c.loop-level.invariant (omega arith) below (
     elim c.if-level-slot.branch [
       | then-level-slot w ↦ grind (arith, ints, nat_tests)
       | else-level-slot+then-level-slot-2 w ↦

@@ -6,9 +6,8 @@ use Rattle.planner.proofs.sweep.sweep.Given as goal
 abbrev pub invariant-loop-i : goal.invariant-loop-i
 invariant-loop-i g l =
     Swept
-    (day_terms g.C.Curve.ground g.C.Curve.steps l.slots)
-    l.initial.marks
+    (day_terms g.C.Curve.ground g.C.Curve.steps l.slots.list.now)
     l.i
-    (day_terms g.C.Curve.ground g.C.Curve.steps (drop l.i l.slots))
+    (day_terms g.C.Curve.ground g.C.Curve.steps (drop l.i l.slots.list.now))
     l.table
     l.marks

@@ -1,4 +1,4 @@
-use Rattle.std.proofs.Common.{◌≤◌, ap, ◌∙◌, arith}
+use Rattle.std.proofs.Common.{◌≡◌, ◌≤◌, pos, neg_ℤ, ap, ◌∙◌, arith}
 use Rattle.std.proofs.lemmas.Int.{ints}
 use Rattle.std.proofs.lemmas.Bool.Decides.{nat_tests}
 use Rattle.curve.specs.Limits.{top}
@@ -18,9 +18,9 @@ returns g c =
     record {
       levels =
           λ message holds.
-          let found = threshold_found t before table c.join.ensures order within message holds in (
-            c.first_from-first.ensures ∙ found _ ∙ ap (threshold message t) (omega (arith, ints)),
-            c.first_from-second.ensures ∙ found _ ∙ ap (threshold message t) (omega (arith, ints)),
-          );
+          let found = threshold_found t before table c.join.ensures order within message holds in
+          let first : c.first_from-first.result ≡ threshold message t (neg_ℤ (pos c.args.down)) = c.first_from-first.ensures ∙ found _ ∙ ap (threshold message t) (omega (arith, ints)) in
+          let second : c.first_from-second.result ≡ threshold message t (pos c.args.up) = c.first_from-second.ensures ∙ found _ ∙ ap (threshold message t) (omega (arith, ints)) in
+          cc;
       after = λ message holds. joined_at t before table c.join.ensures order within message holds;
     }
