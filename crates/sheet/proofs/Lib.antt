@@ -9,7 +9,7 @@ pub mod KeptMeaning
 pub mod KneeValues
 pub mod MadeByEdits
 pub mod Overwriting
+pub mod Reading
 pub mod ReadsBack
 pub mod RecordBytes
-pub mod Unused
 pub mod WritesBack

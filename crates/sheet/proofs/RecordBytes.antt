@@ -6,7 +6,9 @@ use Rattle.slots.specs.declared.slot.Slot.{Slot}
 use Rattle.sheet.specs.Buffers.{all_bytes}
 use Rattle.sheet.specs.Fields.{Field, Values, size, width, packed, written}
 use Rattle.sheet.specs.Numbers.{big_endian}
-use Rattle.sheet.specs.Kinds.{Kind, square, band, knees, kind_byte, kind_of_curve, fields, body_length}
+use Rattle.sheet.specs.Kinds.{kind_byte, kind_of_curve, fields, body_length}
+use Rattle.sheet.specs.declared.kinds.Kind.{Kind}
+use Rattle.sheet.specs.declared.kinds.Kind.TheVariants.{Square as square, Band as band, Knees as knees}
 use Rattle.sheet.specs.Records.{encode_slot}
 use Rattle.sheet.specs.SlotFields.{curve_bytes, slot_values}
 use Rattle.sheet.proofs.Overwriting.{length_big_endian}

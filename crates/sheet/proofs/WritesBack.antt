@@ -10,7 +10,9 @@ use Rattle.curve.specs.declared.written.Written.{Written}
 use Rattle.day.specs.PlainDay.{PlainDay}
 use Rattle.slots.specs.declared.slot.Slot.{Slot}
 use Rattle.sheet.specs.Fields.{Values, number_at, values, packed}
-use Rattle.sheet.specs.Kinds.{Kind, square, band, knees, kind_byte, kind_of, fields, knee_fields, body_length}
+use Rattle.sheet.specs.Kinds.{kind_byte, kind_of, fields, knee_fields, body_length}
+use Rattle.sheet.specs.declared.kinds.Kind.{Kind}
+use Rattle.sheet.specs.declared.kinds.Kind.TheVariants.{Square as square, Band as band, Knees as knees}
 use Rattle.sheet.specs.Records.{decode_body, decode_record, encode_slot}
 use Rattle.sheet.specs.SlotFaults.{slot_fault, unless_fault, all_zero}
 use Rattle.sheet.specs.SlotFields.{knee_levels, knee_steps, slot_in, slot_with, as_written}

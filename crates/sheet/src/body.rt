@@ -1,9 +1,11 @@
 // The slot in the body of a record.
 ghost use Rattle.std.specs.Prelude.{◌≡◌, ◌≤◌, length};
 ghost use Rattle.sheet.specs.Fields.{number_at};
-ghost use Rattle.sheet.specs.Kinds.{square, band, knees, body_length};
+ghost use Rattle.sheet.specs.Kinds.{body_length};
 ghost use Rattle.sheet.specs.SlotFields.{slot_in};
+ghost use Rattle.sheet.specs.declared.kinds.Kind.TheVariants.{Square as square, Band as band, Knees as knees};
 
+use crate::kinds::Kind;
 use crate::numbers::{i32_at, i64_at, u8_at, u16_at, u32_at};
 use curve::written::Written;
 use slots::slot::Slot;
@@ -22,7 +24,7 @@ fn slot_with(body: &[u8], curve: Written) -> Slot<Written>
     }
 }
 
-pub(crate) fn square_slot(body: &[u8]) -> Slot<Written>
+fn square_slot(body: &[u8]) -> Slot<Written>
     requires { length body.now ≡ body_length square }
     ensures { result ≡ slot_in square body.now }
 {
@@ -33,7 +35,7 @@ pub(crate) fn square_slot(body: &[u8]) -> Slot<Written>
     slot_with(body, curve)
 }
 
-pub(crate) fn band_slot(body: &[u8]) -> Slot<Written>
+fn band_slot(body: &[u8]) -> Slot<Written>
     requires { length body.now ≡ body_length band }
     ensures { result ≡ slot_in band body.now }
 {
@@ -46,7 +48,7 @@ pub(crate) fn band_slot(body: &[u8]) -> Slot<Written>
     slot_with(body, curve)
 }
 
-pub(crate) fn knees_slot(body: &[u8]) -> Slot<Written>
+fn knees_slot(body: &[u8]) -> Slot<Written>
     requires { length body.now ≡ body_length knees }
     ensures { result ≡ slot_in knees body.now }
 {
@@ -72,4 +74,16 @@ pub(crate) fn knees_slot(body: &[u8]) -> Slot<Written>
         ],
     };
     slot_with(body, curve)
+}
+
+// The slot of a body of a kind.
+pub(crate) fn slot_in(kind: Kind, body: &[u8]) -> Slot<Written>
+    requires { length body.now ≡ body_length kind }
+    ensures { result ≡ slot_in kind body.now }
+{
+    match kind {
+        Kind::Square => square_slot(body),
+        Kind::Band => band_slot(body),
+        Kind::Knees => knees_slot(body),
+    }
 }

@@ -6,6 +6,7 @@ pub mod fault;
 mod kinds;
 mod numbers;
 pub mod read;
+mod reader;
 mod record;
 pub mod sheets;
 pub mod write;

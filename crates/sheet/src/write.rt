@@ -13,7 +13,7 @@ ghost use Rattle.sheet.specs.SlotFields.{used, curve_bytes};
 ghost use Rattle.sheet.specs.RoundTrips.{ReadsBack};
 ghost use Rattle.sheet.specs.Sheets.{encode, write_refusal, written_over};
 
-use crate::kinds::{body_length, kind_byte};
+use crate::kinds::Kind;
 use crate::numbers::put_all;
 use curve::written::Written;
 use day::day::Day;
@@ -120,7 +120,7 @@ fn put_slot(out: &mut [u8], place: usize, slot: &Slot<Written>) -> usize
     ensures place { result ≡ place + length (encode_slot slot.now) }
 {
     let entries = [
-        (1, kind_byte(&slot.curve) as u64),
+        (1, Kind::from(&slot.curve).byte() as u64),
         (2, slot.low as u64),
         (2, slot.high as u64),
         (4, slot.up as u64),
@@ -137,7 +137,7 @@ fn sheet_length(slots: &[Slot<Written>]) -> usize
 {
     let mut total = 0;
     for slot in slots {
-        total += 1 + body_length(&slot.curve);
+        total += 1 + Kind::from(&slot.curve).body_length();
     }
     total
 }

@@ -1,6 +1,6 @@
-use Rattle.std.proofs.Common.{length, get_or, refl, ap, arith, length-append}
+use Rattle.std.proofs.Common.{length, get_or, refl, ap, ◌∙◌, arith, length-append}
 use Rattle.std.proofs.lemmas.List.{take_all, get_or_default}
-use Rattle.sheet.specs.Kinds.{kind_of_curve}
+use Rattle.sheet.specs.Kinds.{kind_of_curve, body_length}
 use Rattle.sheet.specs.Records.{encode_slot}
 use Rattle.sheet.specs.Sheets.{encode}
 use Rattle.sheet.proofs.Overwriting.{joined_next}
@@ -21,7 +21,8 @@ loop-slot-preserved c =
     let next = simp length-append at (ap length (joined_next encode_slot slots i s c.loop-slot-test.true is)) in
     let size = length_encode_slot s in
     let small = body_small (kind_of_curve s.curve) in
-    (omega (arith, c.loop-slot.invariant.0, c.body_length.ensures), omega (arith, c.loop-slot.invariant.1, c.body_length.ensures))
+    let body = c.body_length.ensures ∙ ap body_length c.from.ensures in
+    (omega (arith, c.loop-slot.invariant.0), omega (arith, c.loop-slot.invariant.1))
 
 pub returns : goal.returns
 returns c = let whole = take_all c.loop-slot.slot-index c.args.slots.now (omega arith) in rw whole at c.loop-slot.invariant.0
