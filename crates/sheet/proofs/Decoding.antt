@@ -1,11 +1,10 @@
 -- Decoding one record, by its kind.
-use Rattle.std.proofs.Common.{◌≡◌, ℕ, ◌<◌, ◌≤◌, List, [], ◌∷◌, length, take, ℤ, Some, None, Ok, Err, Option, ◌∙◌, le-leb}
+use Rattle.std.proofs.Common.{◌≡◌, ℕ, ◌<◌, ◌≤◌, List, length, take, ℤ, Some, None, Ok, Err, Option, ◌∙◌, le-leb}
 use borrow.Author.Tests.{lt-leb}
 use Rattle.std.specs.Option.{ok_or}
 use Rattle.curve.specs.declared.written.Written.{Written}
 use Rattle.curve.specs.declared.written.Written.TheVariants.{Knees}
 use Rattle.slots.specs.declared.slot.Slot.{Slot}
-use Rattle.sheet.specs.Fields.{number_at}
 use Rattle.sheet.specs.Kinds.{kind_of, body_length}
 use Rattle.sheet.specs.declared.kinds.Kind.{Kind}
 use Rattle.sheet.specs.Records.{decode_body, decode_record}
@@ -54,16 +53,7 @@ module _ (kind : Kind) (byte : ℕ) (rest : List ℕ) (known : kind_of byte ≡ 
   record_taken s long is told =
       record_tested s long is ∙ rw (no_fault {X = Unit {0}} (slot_fault s) tt tt told)
 
--- a slot with the fields that every body begins with, and a curve
-abbrev pub with_curve : List ℕ → Written → Slot Written
-with_curve body curve = record { curve = curve; low = number_at body 0 2; high = number_at body 2 2; up = number_at body 4 4; down = number_at body 8 4 }
-
 pub same_knees :
     {ground ground' first first' : ℤ} {count count' : ℕ} {levels levels' : List ℕ} {steps steps' : List ℤ} →
     ground ≡ ground' → first ≡ first' → count ≡ count' → levels ≡ levels' → steps ≡ steps' → Knees ground first count levels steps ≡ Knees ground' first' count' levels' steps'
 same_knees a b c d e = cc
-
-pub same_six :
-    {X : Type 0} {a b c d e f a' b' c' d' e' f' : X} → a ≡ a' → b ≡ b' → c ≡ c' → d ≡ d' → e ≡ e' → f ≡ f' →
-    (a ∷ b ∷ c ∷ d ∷ e ∷ f ∷ []) ≡ (a' ∷ b' ∷ c' ∷ d' ∷ e' ∷ f' ∷ [])
-same_six p q r s t u = cc

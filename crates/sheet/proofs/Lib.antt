@@ -8,6 +8,7 @@ pub mod KeptFaults
 pub mod KeptMeaning
 pub mod KneeValues
 pub mod MadeByEdits
+pub mod NextFields
 pub mod Overwriting
 pub mod Reading
 pub mod ReadsBack
