@@ -1,9 +1,8 @@
 -- Decoding one record, by its kind.
-use Rattle.std.proofs.Common.{◌≡◌, ℕ, ◌<◌, ◌≤◌, List, length, take, ℤ, Some, None, Ok, Err, Option, ◌∙◌, le-leb}
+use Rattle.std.proofs.Common.{◌≡◌, ℕ, ◌<◌, ◌≤◌, List, length, take, Some, None, Ok, Err, Option, ◌∙◌, le-leb}
 use borrow.Author.Tests.{lt-leb}
 use Rattle.std.specs.Option.{ok_or}
 use Rattle.curve.specs.declared.written.Written.{Written}
-use Rattle.curve.specs.declared.written.Written.TheVariants.{Knees}
 use Rattle.slots.specs.declared.slot.Slot.{Slot}
 use Rattle.sheet.specs.Kinds.{kind_of, body_length}
 use Rattle.sheet.specs.declared.kinds.Kind.{Kind}
@@ -52,8 +51,3 @@ module _ (kind : Kind) (byte : ℕ) (rest : List ℕ) (known : kind_of byte ≡ 
       decode_record byte rest ≡ Ok (s, body_length kind)
   record_taken s long is told =
       record_tested s long is ∙ rw (no_fault {X = Unit {0}} (slot_fault s) tt tt told)
-
-pub same_knees :
-    {ground ground' first first' : ℤ} {count count' : ℕ} {levels levels' : List ℕ} {steps steps' : List ℤ} →
-    ground ≡ ground' → first ≡ first' → count ≡ count' → levels ≡ levels' → steps ≡ steps' → Knees ground first count levels steps ≡ Knees ground' first' count' levels' steps'
-same_knees a b c d e = cc

@@ -1,7 +1,6 @@
 -- Bytes that are written over others, part by part.
-use Rattle.std.proofs.Common.{◌≡◌, ℕ, zero, suc, ◌+◌, ◌*◌, ◌/◌, ◌%◌, ◌^◌, ◌<◌, ◌≤◌, List, [], ◌∷◌, ◌++◌, length, get_or, take, drop, sym, refl, ap, ◌∙◌, ap₂, subst, append_assoc, pow-suc, mul_comm, add-one, arith, length-append}
-use Rattle.std.proofs.lemmas.List.{length_push, take-append-drop, take_at, drop_at, drop-drop, take_more, append-nil, length-take-le}
-use Rattle.std.specs.List.{flat_map}
+use Rattle.std.proofs.Common.{◌≡◌, ℕ, zero, suc, ◌+◌, ◌*◌, ◌/◌, ◌%◌, ◌^◌, ◌<◌, ◌≤◌, List, [], ◌∷◌, ◌++◌, length, take, drop, sym, refl, ap, ◌∙◌, ap₂, subst, append_assoc, pow-suc, mul_comm, add-one, arith, length-append}
+use Rattle.std.proofs.lemmas.List.{length_push, take-append-drop, take_at, drop_at, drop-drop, append-nil, length-take-le}
 use Rattle.std.specs.Int.{byte_at, bytes_high_first}
 use native.Mathlib.Nat.{div-div-eq-div-mul}
 use Rattle.sheet.specs.Buffers.{over, Puts}
@@ -78,24 +77,3 @@ puts_number width n p e = puts_as p (e ∙ high_first width n)
 
 pub puts_last : {a b : Writer} {xs : List ℕ} → Puts a xs b → Puts a (xs ++ []) b
 puts_last {a} {b} {xs} p = puts_as p (sym (append-nil xs))
-
--- the bytes of several things, one after another
-module _ {X : Type 0} (f : X → List ℕ) where
-  pub joined_append : (xs ys : List X) → flat_map f (xs ++ ys) ≡ flat_map f xs ++ flat_map f ys
-  joined_append [] ys = refl
-  joined_append (x ∷ xs) ys = ap (λ (bytes : List ℕ). f x ++ bytes) (joined_append xs ys) ∙ sym (append_assoc (f x) (flat_map f xs) (flat_map f ys))
-
-  -- one thing more
-  pub joined_next : (xs : List X) (i : ℕ) (x : X) → i < length xs → x ≡ get_or xs i x → flat_map f (take (i + 1) xs) ≡ flat_map f (take i xs) ++ f x
-  joined_next xs i x within is =
-      ap (flat_map f) (take_more xs i x within)
-      ∙ joined_append (take i xs) (get_or xs i x ∷ [])
-      ∙ ap (λ (bytes : List ℕ). flat_map f (take i xs) ++ bytes) (append-nil (f (get_or xs i x)) ∙ ap f (sym is))
-
-  -- there is room for it where there is room for all
-  pub joined_room : (xs : List X) (i : ℕ) (x : X) → i < length xs → x ≡ get_or xs i x → length (flat_map f (take i xs)) + length (f x) ≤ length (flat_map f xs)
-  joined_room xs i x within is =
-      let next = simp length-append at (ap length (joined_next xs i x within is)) in
-      let all = simp length-append at (ap length (joined_append (take (i + 1) xs) (drop (i + 1) xs))) in
-      let parts = ap (λ (ys : List X). length (flat_map f ys)) (take-append-drop (i + 1) xs) in
-      omega arith

@@ -1,5 +1,5 @@
 -- The bytes of a record, as the program puts them together.
-use Rattle.std.proofs.Common.{◌≡◌, ℕ, zero, suc, ◌+◌, ◌*◌, ◌≤◌, List, [], ◌∷◌, ◌++◌, length, ℤ, pos, sym, refl, ap, ◌∙◌, ap₂, append_assoc, arith, length-append, w32, of_z}
+use Rattle.std.proofs.Common.{◌≡◌, ℕ, zero, suc, ◌+◌, ◌*◌, List, [], ◌∷◌, ◌++◌, length, ℤ, pos, sym, refl, ap, ◌∙◌, ap₂, append_assoc, arith, length-append, w32, of_z}
 use Rattle.std.proofs.lemmas.List.{append-nil}
 use Rattle.curve.specs.declared.written.Written.{Written}
 use Rattle.curve.specs.declared.written.Written.TheVariants.{Square}
@@ -7,8 +7,6 @@ use Rattle.slots.specs.declared.slot.Slot.{Slot}
 use Rattle.sheet.specs.Fields.{Field, Values, size, width, packed, written}
 use Rattle.sheet.specs.Numbers.{big_endian}
 use Rattle.sheet.specs.Kinds.{knee_fields, kind_of_curve, fields, body_length}
-use Rattle.sheet.specs.declared.kinds.Kind.{Kind}
-use Rattle.sheet.specs.declared.kinds.Kind.TheVariants.{Square as square, Band as band, Knees as knees}
 use Rattle.sheet.specs.Records.{encode_slot}
 use Rattle.sheet.specs.SlotFields.{used, knee_values, slot_values}
 use Rattle.sheet.proofs.Overwriting.{length_big_endian}
@@ -26,11 +24,6 @@ length_packed (f ∷ fs) vs =
 pub length_encode_slot : (s : Slot Written) → length (encode_slot s) ≡ 1 + body_length (kind_of_curve s.curve)
 unfolding encode_slot
 length_encode_slot s = let size = length_packed (fields (kind_of_curve s.curve)) (slot_values s) in omega arith
-
-pub body_small : (kind : Kind) → body_length kind ≤ 61
-body_small square = omega arith
-body_small band = omega arith
-body_small knees = omega arith
 
 -- the bytes of one knee
 module _ (count : ℕ) (levels : List ℕ) (steps : List ℤ) where

@@ -90,11 +90,10 @@ fn sheet_length(slots: &[Slot<Written>]) -> usize
     requires { length slots.now ≤ most_slots }
     ensures { result ≡ length (encode slots.now) }
 {
-    let mut total = 0;
-    for slot in slots {
-        total += 1 + Kind::from(&slot.curve).body_length();
-    }
-    total
+    slots
+        .iter()
+        .map(|slot| 1 + Kind::from(&slot.curve).body_length())
+        .sum()
 }
 
 // Writes the sheet of slots over the first of a buffer.

@@ -2,7 +2,6 @@ use Rattle.std.proofs.Common.{◌≡◌, drop, refl, ap, ◌∙◌, w32, w64, SF
 use Rattle.std.proofs.lemmas.Int.{to_z-of_z}
 use Rattle.std.proofs.lemmas.List.{drop-drop}
 use Rattle.curve.specs.Limits.{knee_limit}
-use Rattle.sheet.proofs.Decoding.{same_knees}
 use Rattle.sheet.proofs.NextFields.{field_number, knee_read, levels_read, steps_read}
 use Rattle.sheet.proofs.body.knees.Goals as goal
 
@@ -38,4 +37,6 @@ returns c =
     let count = c.from_be_bytes-count.ensures ∙ field_number 0 12 _ _ left after_first (omega arith) c.next-3.ensures.field in
     let all : c.loop-k.k ≡ knee_limit = omega arith in
     let read = rw all at c.loop-k.invariant in
-    same_knees ground first count (levels_read _ _ _ left _ 13 after_count read) (steps_read _ _ _ left _ 13 after_count read)
+    let levels = levels_read _ _ _ left _ 13 after_count read in
+    let steps = steps_read _ _ _ left _ 13 after_count read in
+    cc
