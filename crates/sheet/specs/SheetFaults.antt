@@ -25,14 +25,14 @@ record_gives byte rest s n = by_kind (kind_of byte)
         let slot = ap (λ (p : Slot Written × ℕ). p.0) pair in
         let size = ap (λ (p : Slot Written × ℕ). p.1) pair in
         (rw (sym size) long, rw (sym slot) same)
-    by_fault k t (Some fault) same long e = let z : ◌≡◌ {A = ℕ} 0 1 = cc in absurd (omega arith)
+    by_fault k t (Some fault) same long e = cc
 
     by_length : (k : Kind) (long : Bool) → nat_le (body_length k) (length rest) ≡ long → cond long (unless_fault {X = Slot Written × ℕ} (slot_fault (slot_in k (take (body_length k) rest))) (slot_in k (take (body_length k) rest), body_length k)) (Err CutShort) ≡ Ok (s, n) → (n ≤ length rest) × (slot_fault s ≡ None)
     by_length k true test e = by_fault k (slot_in k (take (body_length k) rest)) (slot_fault (slot_in k (take (body_length k) rest))) refl (leb-true (body_length k) (length rest) test) e
-    by_length k false test e = let z : ◌≡◌ {A = ℕ} 0 1 = cc in absurd (omega arith)
+    by_length k false test e = cc
 
     by_kind : (kind : Option Kind) → decode_body kind rest ≡ Ok (s, n) → (n ≤ length rest) × (slot_fault s ≡ None)
-    by_kind None e = let z : ◌≡◌ {A = ℕ} 0 1 = cc in absurd (omega arith)
+    by_kind None e = cc
     by_kind (Some k) e = by_length k (nat_le (body_length k) (length rest)) refl e
 
 -- the record that is to be a slot

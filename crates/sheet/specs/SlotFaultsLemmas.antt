@@ -1,6 +1,5 @@
 -- What the tests of a record's slot tell, one after another.
-use Rattle.std.specs.Prelude.{◌≡◌, ℕ, Bool, true, false, [], ◌∷◌, Some, None, Ok, Err, Option, refl}
-use Rattle.std.proofs.Common.{arith}
+use Rattle.std.specs.Prelude.{◌≡◌, Bool, true, false, [], ◌∷◌, Some, None, Ok, Err, Option, refl}
 use Rattle.std.specs.Option.{option_map}
 use Rattle.curve.specs.Answers.{broken}
 use Rattle.curve.specs.WrittenCurves.{written_fault}
@@ -36,10 +35,10 @@ passes s = by_tests (unused_zero s.curve) refl (written_fault s.curve) refl (bou
     by_tests :
         (u : Bool) → unused_zero s.curve ≡ u → (f : Option CurveFault) → written_fault s.curve ≡ f → (b : Bool) → bounds_hold s ≡ b → (t : Bool) → tolls_hold s ≡ t →
         first_fault (broken ((u, UnusedKnee) ∷ []) ∷ option_map Curve f ∷ option_map Refused (broken ((b, Bounds) ∷ (t, Toll) ∷ [])) ∷ []) ≡ None → Passes s
-    by_tests false pu f pf b pb t pt e = let z : ◌≡◌ {A = ℕ} 0 1 = cc in absurd (omega arith)
-    by_tests true pu (Some fault) pf b pb t pt e = let z : ◌≡◌ {A = ℕ} 0 1 = cc in absurd (omega arith)
-    by_tests true pu None pf false pb t pt e = let z : ◌≡◌ {A = ℕ} 0 1 = cc in absurd (omega arith)
-    by_tests true pu None pf true pb false pt e = let z : ◌≡◌ {A = ℕ} 0 1 = cc in absurd (omega arith)
+    by_tests false pu f pf b pb t pt e = cc
+    by_tests true pu (Some fault) pf b pb t pt e = cc
+    by_tests true pu None pf false pb t pt e = cc
+    by_tests true pu None pf true pb false pt e = cc
     by_tests true pu None pf true pb true pt e = record { unused = pu; curve = pf; bounds = pb; tolls = pt }
 
 -- and the other way round

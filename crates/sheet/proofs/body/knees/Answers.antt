@@ -5,15 +5,6 @@ use Rattle.curve.specs.Limits.{knee_limit}
 use Rattle.sheet.proofs.NextFields.{field_number, knee_read, levels_read, steps_read}
 use Rattle.sheet.proofs.body.knees.Goals as goal
 
-pub loop-k-init : goal.loop-k-init
-loop-k-init c = record { levels_are = refl; steps_are = refl; within = omega (arith, c.requires); many_levels = search rules; many_steps = search rules }
-
-pub next-requires-in-loop-k : goal.next-requires-in-loop-k
-next-requires-in-loop-k c = omega (arith, c.loop-k.invariant.within)
-
-pub next-requires-in-loop-k-2 : goal.next-requires-in-loop-k-2
-next-requires-in-loop-k-2 c = omega (arith, c.loop-k.invariant.within)
-
 pub loop-k-preserved : goal.loop-k-preserved
 loop-k-preserved c =
     let left = c.loop-k.fields.left.now in

@@ -2,13 +2,10 @@ use Rattle.std.proofs.Common.{◌≡◌, ℕ, ℤ, pos, length, get_or, sym, ap,
 use Rattle.std.proofs.lemmas.Int.{to_z-of_z}
 use Rattle.sheet.specs.SlotFields.{used}
 use Rattle.sheet.specs.Numbers.{big_endian}
-use Rattle.sheet.proofs.Overwriting.{puts_nothing, puts_then, puts_as, puts_number}
+use Rattle.sheet.proofs.Overwriting.{puts_then, puts_as, puts_number}
 use Rattle.sheet.proofs.RecordBytes.{knee_bytes, knees_bytes, knee_more, length_knees}
 use Rattle.sheet.proofs.write.put_knees.Goals as goal
 use Rattle.sheet.proofs.write.put_knees.Goals.{then-k-count, else-k-count}
-
-pub loop-k-init : goal.loop-k-init
-loop-k-init c = puts_nothing c.args.writer.now (omega (arith, c.requires))
 
 pub put-requires : goal.put-requires
 put-requires c =
