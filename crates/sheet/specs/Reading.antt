@@ -1,4 +1,4 @@
--- Reading a sheet record by record.
+-- Reading a sheet record by record: what the private functions of reading say. No public contract cites it.
 use Rattle.std.specs.Prelude.{◌≡◌, ◌-◌, ◌<◌, List, [], length, Some, None, Ok, Err, Option, Result}
 use Rattle.curve.specs.declared.written.Written.{Written}
 use Rattle.slots.specs.declared.slot.Slot.{Slot}

@@ -1,10 +1,8 @@
 // The slot in the body of a record: its fields are read in their order.
-ghost use Rattle.std.specs.Prelude.{◌≡◌, ◌≤◌, length, drop};
-ghost use Rattle.curve.specs.Limits.{knee_limit};
+ghost use Rattle.std.specs.Prelude.{◌≡◌, ◌≤◌, length};
 ghost use Rattle.sheet.specs.Fields.{size, values};
 ghost use Rattle.sheet.specs.Kinds.{curve_fields, body_length};
 ghost use Rattle.sheet.specs.SlotFields.{curve_of, slot_in};
-ghost use Rattle.sheet.specs.declared.kinds.Kind.TheVariants.{Square as square, Band as band, Knees as knees};
 
 use crate::fields::Fields;
 use crate::kinds::Kind;
@@ -13,8 +11,8 @@ use curve::written::Written;
 use slots::slot::Slot;
 
 fn square(fields: &mut Fields) -> Written
-    requires { size (curve_fields square) ≤ length fields.old.left.now }
-    ensures { result ≡ curve_of square (values (curve_fields square) 0 fields.old.left.now) }
+    requires { size (curve_fields Kind.Square) ≤ length fields.old.left.now }
+    ensures { result ≡ curve_of Kind.Square (values (curve_fields Kind.Square) 0 fields.old.left.now) }
 {
     let weight = u32::from_be_bytes(fields.next());
     let target = u16::from_be_bytes(fields.next());
@@ -22,8 +20,8 @@ fn square(fields: &mut Fields) -> Written
 }
 
 fn band(fields: &mut Fields) -> Written
-    requires { size (curve_fields band) ≤ length fields.old.left.now }
-    ensures { result ≡ curve_of band (values (curve_fields band) 0 fields.old.left.now) }
+    requires { size (curve_fields Kind.Band) ≤ length fields.old.left.now }
+    ensures { result ≡ curve_of Kind.Band (values (curve_fields Kind.Band) 0 fields.old.left.now) }
 {
     let cold = u16::from_be_bytes(fields.next());
     let warm = u16::from_be_bytes(fields.next());
@@ -38,8 +36,8 @@ fn band(fields: &mut Fields) -> Written
 }
 
 fn knees(fields: &mut Fields) -> Written
-    requires { size (curve_fields knees) ≤ length fields.old.left.now }
-    ensures { result ≡ curve_of knees (values (curve_fields knees) 0 fields.old.left.now) }
+    requires { size (curve_fields Kind.Knees) ≤ length fields.old.left.now }
+    ensures { result ≡ curve_of Kind.Knees (values (curve_fields Kind.Knees) 0 fields.old.left.now) }
 {
     let ground = i64::from_be_bytes(fields.next());
     let first = i32::from_be_bytes(fields.next());
@@ -59,6 +57,7 @@ fn knees(fields: &mut Fields) -> Written
     }
 }
 
+// The curve of a kind, whose fields are the next.
 fn curve_in(kind: Kind, fields: &mut Fields) -> Written
     requires { size (curve_fields kind) ≤ length fields.old.left.now }
     ensures { result ≡ curve_of kind (values (curve_fields kind) 0 fields.old.left.now) }
