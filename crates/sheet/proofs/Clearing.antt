@@ -1,5 +1,5 @@
 -- What a drop tells of the slots that are left.
-use Rattle.std.proofs.Common.{◌≡◌, ℕ, ◌-◌, ◌<◌, Bool, true, false, ltb, ◌⊎◌, [], length, take, is_ok, Result, refl, ap, ◌∙◌, inl, inr, arith, length-take, ltb-false, ltb-true}
+use Rattle.std.proofs.Common.{◌≡◌, ◌-◌, ◌<◌, Bool, true, false, ltb, ◌⊎◌, [], length, take, is_ok, Result, refl, ap, ◌∙◌, inl, inr, arith, length-take, ltb-false, ltb-true}
 use Rattle.std.proofs.lemmas.List.{length-take-le, nil_from_length}
 use Rattle.curve.specs.declared.written.Written.{Written}
 use Rattle.day.specs.Edits.{drop_refusal, drop_slot}
@@ -33,7 +33,7 @@ module _ (d after : Day Written) (r : Result (Unit {0}) Refusal) (answer : r ≡
             let many = p.1 in
             let fewer = simp length-take at (ap length p.2) in
             omega arith
-        | inr p ↦ let clash : ◌≡◌ {A = Bool} true false = ok ∙ p.0 in let z : ◌≡◌ {A = ℕ} 0 1 = cc in absurd (omega arith)
+        | inr p ↦ let clash : ◌≡◌ {A = Bool} true false = ok ∙ p.0 in cc
       ]
 
   -- a refused one leaves none

@@ -8,8 +8,9 @@ pub mod KeptFaults
 pub mod KeptMeaning
 pub mod KneeValues
 pub mod MadeByEdits
+pub mod NextFields
 pub mod Overwriting
+pub mod Reading
 pub mod ReadsBack
 pub mod RecordBytes
-pub mod Unused
 pub mod WritesBack

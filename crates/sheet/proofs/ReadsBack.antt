@@ -6,7 +6,9 @@ use Rattle.curve.specs.declared.written.Written.{Written}
 use Rattle.slots.specs.Slots.{all_proper}
 use Rattle.slots.specs.declared.slot.Slot.{Slot}
 use Rattle.sheet.specs.Fields.{values, packed}
-use Rattle.sheet.specs.Kinds.{Kind, square, band, knees, kind_byte, kind_of, kind_of_curve, fields, body_length}
+use Rattle.sheet.specs.Kinds.{kind_byte, kind_of, kind_of_curve, fields, body_length}
+use Rattle.sheet.specs.declared.kinds.Kind.{Kind}
+use Rattle.sheet.specs.declared.kinds.Kind.TheVariants.{Square as square, Band as band, Knees as knees}
 use Rattle.sheet.specs.Records.{decode_record, encode_slot}
 use Rattle.sheet.specs.SlotFaults.{slot_fault, unless_fault}
 use Rattle.sheet.specs.SlotFields.{slot_in, slot_with, slot_values, as_written}
@@ -14,7 +16,7 @@ use Rattle.sheet.specs.RoundTrips.{Fitting, SixKnees, SameMeaning, ReadsBack}
 use Rattle.sheet.specs.Sheets.{go_on, followed_by, decode, encode}
 use Rattle.sheet.specs.declared.fault.RecordFault.{RecordFault}
 use Rattle.sheet.specs.declared.fault.RecordFault.TheVariants.{Curve}
-use Rattle.sheet.proofs.Decoding.{record_taken}
+use Rattle.sheet.proofs.Decoding.{record_tested}
 use Rattle.sheet.proofs.FieldBytes.{values_packed}
 use Rattle.sheet.proofs.Holding.{slot_holds}
 use Rattle.sheet.proofs.KeptFaults.{all_faultless, first_proper, kept_refused}
@@ -42,7 +44,7 @@ record_read s rest held =
     let long : body_length kind ≤ length (bytes ++ rest) = rw length-append (omega arith) in
     let read = ap (values (fields kind) 0) (sym (append-nil bytes)) ∙ values_packed (fields kind) (slot_values s) [] [] held in
     let slot : as_written s ≡ slot_in kind bytes = sym (ap (slot_with kind) read) in
-    sym (record_taken kind (kind_byte kind) (bytes ++ rest) (known kind) bytes (as_written s) (unless_fault (slot_fault (as_written s)) (as_written s, body_length kind)) long (sym (take_at bytes rest (body_length kind) size)) slot refl)
+    record_tested kind (kind_byte kind) (bytes ++ rest) (known kind) (as_written s) long (slot ∙ ap (slot_in kind) (sym (take_at bytes rest (body_length kind) size)))
 
 -- with a slot that has no fault, reading goes on
 gone_on :

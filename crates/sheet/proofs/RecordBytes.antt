@@ -1,44 +1,19 @@
 -- The bytes of a record, as the program puts them together.
-use Rattle.std.proofs.Common.{◌≡◌, ℕ, ◌+◌, ◌≤◌, List, [], ◌∷◌, ◌++◌, length, refl, ◌∙◌, ap₂, append_assoc, arith, length-append}
+use Rattle.std.proofs.Common.{◌≡◌, ℕ, zero, suc, ◌+◌, ◌*◌, List, [], ◌∷◌, ◌++◌, length, ℤ, pos, sym, refl, ap, ◌∙◌, ap₂, append_assoc, arith, length-append, w32, of_z}
+use Rattle.std.proofs.lemmas.List.{append-nil}
 use Rattle.curve.specs.declared.written.Written.{Written}
 use Rattle.curve.specs.declared.written.Written.TheVariants.{Square}
 use Rattle.slots.specs.declared.slot.Slot.{Slot}
-use Rattle.sheet.specs.Buffers.{all_bytes}
 use Rattle.sheet.specs.Fields.{Field, Values, size, width, packed, written}
 use Rattle.sheet.specs.Numbers.{big_endian}
-use Rattle.sheet.specs.Kinds.{Kind, square, band, knees, kind_byte, kind_of_curve, fields, body_length}
+use Rattle.sheet.specs.Kinds.{knee_fields, kind_of_curve, fields, body_length}
 use Rattle.sheet.specs.Records.{encode_slot}
-use Rattle.sheet.specs.SlotFields.{curve_bytes, slot_values}
+use Rattle.sheet.specs.SlotFields.{used, knee_values, slot_values}
 use Rattle.sheet.proofs.Overwriting.{length_big_endian}
-
--- the numbers of a knees curve, each beside its width
-abbrev pub knees_entries : (ground first count l₀ s₀ l₁ s₁ l₂ s₂ l₃ s₃ l₄ s₄ l₅ s₅ : ℕ) → List (ℕ × ℕ)
-knees_entries ground first count l₀ s₀ l₁ s₁ l₂ s₂ l₃ s₃ l₄ s₄ l₅ s₅ =
-    (8, ground) ∷ (4, first) ∷ (1, count) ∷ (2, l₀) ∷ (4, s₀) ∷ (2, l₁) ∷ (4, s₁) ∷ (2, l₂) ∷ (4, s₂) ∷ (2, l₃) ∷ (4, s₃) ∷ (2, l₄) ∷ (4, s₄) ∷ (2, l₅) ∷ (4, s₅) ∷ []
-
-pub same_entries :
-    {count : ℕ} {g f l₀ s₀ l₁ s₁ l₂ s₂ l₃ s₃ l₄ s₄ l₅ s₅ g' f' l₀' s₀' l₁' s₁' l₂' s₂' l₃' s₃' l₄' s₄' l₅' s₅' : ℕ} →
-    g ≡ g' → f ≡ f' → l₀ ≡ l₀' → s₀ ≡ s₀' → l₁ ≡ l₁' → s₁ ≡ s₁' → l₂ ≡ l₂' → s₂ ≡ s₂' → l₃ ≡ l₃' → s₃ ≡ s₃' → l₄ ≡ l₄' → s₄ ≡ s₄' → l₅ ≡ l₅' → s₅ ≡ s₅' →
-    knees_entries g f count l₀ s₀ l₁ s₁ l₂ s₂ l₃ s₃ l₄ s₄ l₅ s₅ ≡ knees_entries g' f' count l₀' s₀' l₁' s₁' l₂' s₂' l₃' s₃' l₄' s₄' l₅' s₅'
-same_entries a b c d e f g h i j k l m n = cc
 
 -- what stands past the last slot, where a list is read
 abbrev pub blank : Slot Written
 blank = record { curve = Square 0 0; low = 0; high = 0; up = 0; down = 0 }
-
--- the kind and what every body begins with
-abbrev pub head_entries : ℕ → Slot Written → List (ℕ × ℕ)
-head_entries kind s = (1, kind) ∷ (2, s.low) ∷ (2, s.high) ∷ (4, s.up) ∷ (4, s.down) ∷ []
-
-kind_alone : (kind : Kind) → big_endian 1 (kind_byte kind) ≡ kind_byte kind ∷ []
-unfolding big_endian
-kind_alone square = refl
-kind_alone band = refl
-kind_alone knees = refl
-
-pub slot_bytes : (s : Slot Written) (kind : ℕ) → kind ≡ kind_byte (kind_of_curve s.curve) → all_bytes (head_entries kind s) ++ curve_bytes s.curve ≡ encode_slot s
-unfolding encode_slot
-slot_bytes s kind is = rw (is, kind_alone (kind_of_curve s.curve)) (simp append_assoc)
 
 -- fields take as many bytes as their widths say
 pub length_packed : (fs : List Field) (vs : Values fs) → length (packed fs vs) ≡ size fs
@@ -50,7 +25,30 @@ pub length_encode_slot : (s : Slot Written) → length (encode_slot s) ≡ 1 + b
 unfolding encode_slot
 length_encode_slot s = let size = length_packed (fields (kind_of_curve s.curve)) (slot_values s) in omega arith
 
-pub body_small : (kind : Kind) → body_length kind ≤ 61
-body_small square = omega arith
-body_small band = omega arith
-body_small knees = omega arith
+-- the bytes of one knee
+module _ (count : ℕ) (levels : List ℕ) (steps : List ℤ) where
+  abbrev pub knee_bytes : ℕ → List ℕ
+  knee_bytes place = big_endian 2 (used count place levels 0) ++ big_endian 4 (of_z w32 (used count place steps (pos 0)))
+
+  abbrev pub knees_bytes : ℕ → ℕ → List ℕ
+  knees_bytes many place = packed (knee_fields many) (knee_values many place count levels steps)
+
+  -- stand behind those of the knees before it
+  pub knee_more : (many place : ℕ) → knees_bytes (suc many) place ≡ knees_bytes many place ++ knee_bytes (place + many)
+  knee_more zero place =
+      let here : place + 0 ≡ place = omega arith in
+      ap (λ (bs : List ℕ). big_endian 2 (used count place levels 0) ++ bs) (append-nil (big_endian 4 (of_z w32 (used count place steps (pos 0))))) ∙ ap knee_bytes (sym here)
+  knee_more (suc many) place =
+      let level = big_endian 2 (used count place levels 0) in
+      let step = big_endian 4 (of_z w32 (used count place steps (pos 0))) in
+      let there : suc place + many ≡ place + suc many = omega arith in
+      let others = knee_more many (suc place) ∙ ap (λ (n : ℕ). knees_bytes many (suc place) ++ knee_bytes n) there in
+      ap (λ (bs : List ℕ). level ++ (step ++ bs)) others
+      ∙ sym (append_assoc level (step ++ knees_bytes many (suc place)) (knee_bytes (place + suc many)) ∙ ap (λ (bs : List ℕ). level ++ bs) (append_assoc step (knees_bytes many (suc place)) (knee_bytes (place + suc many))))
+
+  pub length_knees : (many place : ℕ) → length (knees_bytes many place) ≡ 6 * many
+  length_knees many place = length_packed (knee_fields many) (knee_values many place count levels steps) ∙ sizes many
+    where
+      sizes : (many : ℕ) → size (knee_fields many) ≡ 6 * many
+      sizes zero = refl
+      sizes (suc many) = let others = sizes many in omega arith

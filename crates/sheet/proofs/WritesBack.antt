@@ -10,7 +10,9 @@ use Rattle.curve.specs.declared.written.Written.{Written}
 use Rattle.day.specs.PlainDay.{PlainDay}
 use Rattle.slots.specs.declared.slot.Slot.{Slot}
 use Rattle.sheet.specs.Fields.{Values, number_at, values, packed}
-use Rattle.sheet.specs.Kinds.{Kind, square, band, knees, kind_byte, kind_of, fields, knee_fields, body_length}
+use Rattle.sheet.specs.Kinds.{kind_byte, kind_of, fields, knee_fields, body_length}
+use Rattle.sheet.specs.declared.kinds.Kind.{Kind}
+use Rattle.sheet.specs.declared.kinds.Kind.TheVariants.{Square as square, Band as band, Knees as knees}
 use Rattle.sheet.specs.Records.{decode_body, decode_record, encode_slot}
 use Rattle.sheet.specs.SlotFaults.{slot_fault, unless_fault, all_zero}
 use Rattle.sheet.specs.SlotFields.{knee_levels, knee_steps, slot_in, slot_with, as_written}
@@ -29,7 +31,7 @@ byte_of_kind byte kind = one (eqb byte 1) refl
   where
     three : (t : Bool) → eqb byte 3 ≡ t → cond t (Some knees) None ≡ Some kind → byte ≡ kind_byte kind
     three true test e = let k : knees ≡ kind = cc in eqb-true byte 3 test ∙ ap kind_byte k
-    three false test e = let z : ◌≡◌ {A = ℕ} 0 1 = cc in absurd (omega arith)
+    three false test e = cc
 
     two : (t : Bool) → eqb byte 2 ≡ t → cond t (Some band) (cond (eqb byte 3) (Some knees) None) ≡ Some kind → byte ≡ kind_byte kind
     two true test e = let k : band ≡ kind = cc in eqb-true byte 2 test ∙ ap kind_byte k
@@ -96,17 +98,17 @@ record_again byte rest s n under = by_kind (kind_of byte) refl
         let made : encode_slot (slot_in k body) ≡ byte ∷ take (body_length k) rest = again.record_is ∙ ap₂ (λ (b : ℕ) (bs : List ℕ). b ∷ bs) (sym (byte_of_kind byte k known)) bytes in
         let P : Slot Written × ℕ → Type 0 = λ p. (encode_slot p.0 ≡ byte ∷ take p.1 rest) × MakesCurve p.0 × (as_written p.0 ≡ p.0) in
         subst P pair (made, (again.six, (passes (slot_in k body) none).curve), again.kept)
-    by_fault k known long (Some fault) none e = let z : ◌≡◌ {A = ℕ} 0 1 = cc in absurd (omega arith)
+    by_fault k known long (Some fault) none e = cc
 
     by_length :
         (k : Kind) → kind_of byte ≡ Some k → (long : Bool) → leb (body_length k) (length rest) ≡ long →
         cond long (unless_fault {X = Slot Written × ℕ} (slot_fault (slot_in k (take (body_length k) rest))) (slot_in k (take (body_length k) rest), body_length k)) (Err CutShort) ≡ Ok (s, n) →
         (encode_slot s ≡ byte ∷ take n rest) × MakesCurve s × (as_written s ≡ s)
     by_length k known true test e = by_fault k known (leb-true (body_length k) (length rest) test) (slot_fault (slot_in k (take (body_length k) rest))) refl e
-    by_length k known false test e = let z : ◌≡◌ {A = ℕ} 0 1 = cc in absurd (omega arith)
+    by_length k known false test e = cc
 
     by_kind : (kind : Option Kind) → kind_of byte ≡ kind → decode_body kind rest ≡ Ok (s, n) → (encode_slot s ≡ byte ∷ take n rest) × MakesCurve s × (as_written s ≡ s)
-    by_kind None known e = let z : ◌≡◌ {A = ℕ} 0 1 = cc in absurd (omega arith)
+    by_kind None known e = cc
     by_kind (Some k) known e = by_length k known (leb (body_length k) (length rest)) refl e
 
 -- and all of them
@@ -116,7 +118,7 @@ writes_back more slot place [] slots under e =
     let none : [] ≡ slots = cc in
     let P : List (Slot Written) → Type 0 = λ slots. WritesBack slots [] in
     subst P none (record { bytes = refl; curves = tt; kept = refl })
-writes_back zero slot place (kind ∷ rest) slots under e = let z : ◌≡◌ {A = ℕ} 0 1 = cc in absurd (omega arith)
+writes_back zero slot place (kind ∷ rest) slots under e = cc
 writes_back (suc more) slot place (kind ∷ rest) slots under e = by_record (λ slot place bytes slots under e. writes_back more slot place bytes slots under e) (decode_record kind rest) refl e
   where
     by_rest :
@@ -134,14 +136,14 @@ writes_back (suc more) slot place (kind ∷ rest) slots under e = by_record (λ 
           kept = ap₂ (λ (s : Slot Written) (slots : List (Slot Written)). s ∷ slots) first.2 behind.kept;
         }
         )
-    by_rest on s n is (Err fault) left e = let z : ◌≡◌ {A = ℕ} 0 1 = cc in absurd (omega arith)
+    by_rest on s n is (Err fault) left e = cc
 
     by_record :
         ((slot place : ℕ) (bytes : List ℕ) (slots : List (Slot Written)) → AllBelowBase 256 bytes → decode more slot place bytes ≡ Ok slots → WritesBack slots bytes) →
         (taken : Result (Slot Written × ℕ) RecordFault) → decode_record kind rest ≡ taken →
         go_on slot place taken (λ s n. followed_by s (decode more (slot + 1) (place + (1 + n)) (drop n rest))) ≡ Ok slots → WritesBack slots (kind ∷ rest)
     by_record on (Ok (s, n)) is e = by_rest on s n is (decode more (slot + 1) (place + (1 + n)) (drop n rest)) refl e
-    by_record on (Err fault) is e = let z : ◌≡◌ {A = ℕ} 0 1 = cc in absurd (omega arith)
+    by_record on (Err fault) is e = cc
 
 -- a day that a sheet was read into
 pub day_writes_back :
@@ -152,4 +154,4 @@ day_writes_back d after sheet under = by_result (decoded d.room sheet) refl
     by_result (Ok slots) is told made =
         let P : List (Slot Written) → Type 0 = λ slots. WritesBack slots sheet in
         subst P (sym (ap (λ (d : PlainDay Written). d.slots) made)) (writes_back d.room 0 0 sheet slots under is)
-    by_result (Err fault) is told made = let z : ◌≡◌ {A = ℕ} 0 1 = cc in absurd (omega arith)
+    by_result (Err fault) is told made = cc

@@ -5,9 +5,8 @@ use Rattle.curve.specs.Limits.{knee_limit}
 use Rattle.curve.specs.declared.written.Written.{Written}
 use Rattle.curve.specs.declared.written.Written.TheVariants.{Square, Band, Knees}
 use Rattle.sheet.specs.Fields.{Field, unsigned, signed, size}
-
-pub data Kind : Type 0 where
-  square band knees : Kind
+use Rattle.sheet.specs.declared.kinds.Kind.{Kind}
+use Rattle.sheet.specs.declared.kinds.Kind.TheVariants.{Square as square, Band as band, Knees as knees}
 
 -- the byte of each kind
 abbrev pub kind_byte : Kind → ℕ

@@ -4,6 +4,7 @@ pub mod Faults
 pub mod Fields
 pub mod Kinds
 pub mod Numbers
+pub mod Reading
 pub mod Records
 pub mod RoundTrips
 pub mod Sheets

@@ -1,9 +1,10 @@
 -- A record of a sheet: one byte of kind, then a body whose fields the kind fixes.
-use Rattle.std.specs.Prelude.{ℕ, cond, List, ◌∷◌, length, take, Some, None, Err, Option, Result, nat_le}
+use Rattle.std.specs.Prelude.{◌≡◌, ℕ, ◌≤◌, cond, List, ◌∷◌, length, take, drop, Some, None, Ok, Err, Option, Result, nat_le}
 use Rattle.curve.specs.declared.written.Written.{Written}
 use Rattle.slots.specs.declared.slot.Slot.{Slot}
 use Rattle.sheet.specs.Fields.{packed}
-use Rattle.sheet.specs.Kinds.{Kind, kind_byte, kind_of, fields, body_length, kind_of_curve}
+use Rattle.sheet.specs.Kinds.{kind_byte, kind_of, fields, body_length, kind_of_curve}
+use Rattle.sheet.specs.declared.kinds.Kind.{Kind}
 use Rattle.sheet.specs.SlotFaults.{slot_fault, unless_fault}
 use Rattle.sheet.specs.SlotFields.{slot_in, slot_values}
 use Rattle.sheet.specs.declared.fault.RecordFault.{RecordFault}
@@ -19,6 +20,10 @@ decode_body (Some kind) rest =
 -- the same, from the byte of kind and the bytes after it
 unfoldable pub decode_record : ℕ → List ℕ → Result (Slot Written × ℕ) RecordFault
 decode_record byte rest = decode_body (kind_of byte) rest
+
+-- a record gives a slot, and after its body these bytes are left
+abbrev pub Leaves : List ℕ → Result (Slot Written × ℕ) RecordFault → Slot Written → List ℕ → Type 0
+Leaves rest decoded slot left = (n : ℕ) × (decoded ≡ Ok (slot, n)) × (n ≤ length rest) × (left ≡ drop n rest)
 
 -- the record of a slot
 unfoldable pub encode_slot : Slot Written → List ℕ

@@ -1,21 +1,20 @@
 -- Why a slot is not taken from a record.
 use Rattle.std.specs.Prelude.{ℕ, Bool, true, cond, ◌&&◌, List, [], ◌∷◌, map, drop, Some, None, Ok, Err, Option, Result, ◌==◌, nat_le, unsigned_abs}
+use Rattle.std.specs.List.{list_all}
 use Rattle.std.specs.Option.{option_map}
 use Rattle.curve.specs.Answers.{broken}
 use Rattle.curve.specs.Limits.{knee_limit}
 use Rattle.curve.specs.WrittenCurves.{written_fault}
 use Rattle.curve.specs.declared.written.Written.{Written}
 use Rattle.curve.specs.declared.written.Written.TheVariants.{Square, Band, Knees}
-use Rattle.slots.specs.Slots.{bounds_hold, tolls_hold}
-use Rattle.slots.specs.declared.refusal.Refusal.TheVariants.{Bounds, Toll}
+use Rattle.slots.specs.Refusals.{slot_refusal}
 use Rattle.slots.specs.declared.slot.Slot.{Slot}
 use Rattle.sheet.specs.declared.fault.RecordFault.{RecordFault}
 use Rattle.sheet.specs.declared.fault.RecordFault.TheVariants.{UnusedKnee, Curve, Refused}
 
 -- numbers are all 0
 abbrev pub all_zero : List ℕ → Bool
-all_zero [] = true
-all_zero (n ∷ ns) = n == 0 && all_zero ns
+all_zero ns = list_all (λ n. n == 0) ns
 
 -- the knees past the count are 0; a count that no curve has leaves this to the curve
 abbrev pub unused_zero : Written → Bool
@@ -36,7 +35,7 @@ slot_fault s =
     first_fault
     (broken ((unused_zero s.curve, UnusedKnee) ∷ [])
     ∷ option_map Curve (written_fault s.curve)
-    ∷ broken ((bounds_hold s, Refused Bounds) ∷ (tolls_hold s, Refused Toll) ∷ [])
+    ∷ option_map Refused (slot_refusal s)
     ∷ [])
 
 -- a fault, or where there is none, a value

@@ -5,7 +5,9 @@ use Rattle.curve.specs.declared.written.Written.{Written}
 use Rattle.curve.specs.declared.written.Written.TheVariants.{Square, Band, Knees}
 use Rattle.slots.specs.declared.slot.Slot.{Slot}
 use Rattle.sheet.specs.Fields.{Values, values, packed}
-use Rattle.sheet.specs.Kinds.{Kind, square, band, knees, knee_fields, curve_fields, fields, kind_of_curve}
+use Rattle.sheet.specs.Kinds.{knee_fields, curve_fields, fields, kind_of_curve}
+use Rattle.sheet.specs.declared.kinds.Kind.{Kind}
+use Rattle.sheet.specs.declared.kinds.Kind.TheVariants.{Square as square, Band as band, Knees as knees}
 
 -- the levels that knees hold
 abbrev pub knee_levels : (count : ℕ) → Values (knee_fields count) → List ℕ

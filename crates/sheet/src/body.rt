@@ -1,75 +1,90 @@
-// The slot in the body of a record.
+// The slot in the body of a record: its fields are read in their order.
 ghost use Rattle.std.specs.Prelude.{◌≡◌, ◌≤◌, length};
-ghost use Rattle.sheet.specs.Fields.{number_at};
-ghost use Rattle.sheet.specs.Kinds.{square, band, knees, body_length};
-ghost use Rattle.sheet.specs.SlotFields.{slot_in};
+ghost use Rattle.sheet.specs.Fields.{size, values};
+ghost use Rattle.sheet.specs.Kinds.{curve_fields, body_length};
+ghost use Rattle.sheet.specs.SlotFields.{curve_of, slot_in};
 
-use crate::numbers::{i32_at, i64_at, u8_at, u16_at, u32_at};
+use crate::fields::Fields;
+use crate::kinds::Kind;
+use curve::limits::KNEE_LIMIT;
 use curve::written::Written;
 use slots::slot::Slot;
 
-// A slot by the fields that every body begins with, and a curve.
-fn slot_with(body: &[u8], curve: Written) -> Slot<Written>
-    requires { 12 ≤ length body.now }
-    ensures { result ≡ record { curve = curve; low = number_at body.now 0 2; high = number_at body.now 2 2; up = number_at body.now 4 4; down = number_at body.now 8 4 } }
+fn square(fields: &mut Fields) -> Written
+    requires { size (curve_fields Kind.Square) ≤ length fields.old.left.now }
+    ensures { result ≡ curve_of Kind.Square (values (curve_fields Kind.Square) 0 fields.old.left.now) }
 {
-    Slot {
-        curve,
-        low: u16_at(body, 0),
-        high: u16_at(body, 2),
-        up: u32_at(body, 4),
-        down: u32_at(body, 8),
+    let weight = u32::from_be_bytes(fields.next());
+    let target = u16::from_be_bytes(fields.next());
+    Written::Square { weight, target }
+}
+
+fn band(fields: &mut Fields) -> Written
+    requires { size (curve_fields Kind.Band) ≤ length fields.old.left.now }
+    ensures { result ≡ curve_of Kind.Band (values (curve_fields Kind.Band) 0 fields.old.left.now) }
+{
+    let cold = u16::from_be_bytes(fields.next());
+    let warm = u16::from_be_bytes(fields.next());
+    let cold_rate = u32::from_be_bytes(fields.next());
+    let warm_rate = u32::from_be_bytes(fields.next());
+    Written::Band {
+        cold,
+        warm,
+        cold_rate,
+        warm_rate,
     }
 }
 
-pub(crate) fn square_slot(body: &[u8]) -> Slot<Written>
-    requires { length body.now ≡ body_length square }
-    ensures { result ≡ slot_in square body.now }
+fn knees(fields: &mut Fields) -> Written
+    requires { size (curve_fields Kind.Knees) ≤ length fields.old.left.now }
+    ensures { result ≡ curve_of Kind.Knees (values (curve_fields Kind.Knees) 0 fields.old.left.now) }
 {
-    let curve = Written::Square {
-        weight: u32_at(body, 12),
-        target: u16_at(body, 16),
-    };
-    slot_with(body, curve)
+    let ground = i64::from_be_bytes(fields.next());
+    let first = i32::from_be_bytes(fields.next());
+    let count = u8::from_be_bytes(fields.next());
+    let mut levels = [0; KNEE_LIMIT];
+    let mut steps = [0; KNEE_LIMIT];
+    for k in 0..KNEE_LIMIT {
+        levels[k] = u16::from_be_bytes(fields.next());
+        steps[k] = i32::from_be_bytes(fields.next());
+    }
+    Written::Knees {
+        ground,
+        first,
+        count,
+        levels,
+        steps,
+    }
 }
 
-pub(crate) fn band_slot(body: &[u8]) -> Slot<Written>
-    requires { length body.now ≡ body_length band }
-    ensures { result ≡ slot_in band body.now }
+// The curve of a kind, whose fields are the next.
+fn curve_in(kind: Kind, fields: &mut Fields) -> Written
+    requires { size (curve_fields kind) ≤ length fields.old.left.now }
+    ensures { result ≡ curve_of kind (values (curve_fields kind) 0 fields.old.left.now) }
 {
-    let curve = Written::Band {
-        cold: u16_at(body, 12),
-        warm: u16_at(body, 14),
-        cold_rate: u32_at(body, 16),
-        warm_rate: u32_at(body, 20),
-    };
-    slot_with(body, curve)
+    match kind {
+        Kind::Square => square(fields),
+        Kind::Band => band(fields),
+        Kind::Knees => knees(fields),
+    }
 }
 
-pub(crate) fn knees_slot(body: &[u8]) -> Slot<Written>
-    requires { length body.now ≡ body_length knees }
-    ensures { result ≡ slot_in knees body.now }
+// The slot of a body of a kind.
+pub(crate) fn slot_in(kind: Kind, body: &[u8]) -> Slot<Written>
+    requires { length body.now ≡ body_length kind }
+    ensures { result ≡ slot_in kind body.now }
 {
-    let curve = Written::Knees {
-        ground: i64_at(body, 12),
-        first: i32_at(body, 20),
-        count: u8_at(body, 24),
-        levels: [
-            u16_at(body, 25),
-            u16_at(body, 31),
-            u16_at(body, 37),
-            u16_at(body, 43),
-            u16_at(body, 49),
-            u16_at(body, 55),
-        ],
-        steps: [
-            i32_at(body, 27),
-            i32_at(body, 33),
-            i32_at(body, 39),
-            i32_at(body, 45),
-            i32_at(body, 51),
-            i32_at(body, 57),
-        ],
-    };
-    slot_with(body, curve)
+    let mut fields = Fields { left: body };
+    let low = u16::from_be_bytes(fields.next());
+    let high = u16::from_be_bytes(fields.next());
+    let up = u32::from_be_bytes(fields.next());
+    let down = u32::from_be_bytes(fields.next());
+    let curve = curve_in(kind, &mut fields);
+    Slot {
+        curve,
+        low,
+        high,
+        up,
+        down,
+    }
 }

@@ -1,37 +1,61 @@
 // The kinds of records: the byte of each, and the length of its body.
 ghost use Rattle.std.specs.Prelude.{◌≡◌};
-ghost use Rattle.sheet.specs.Kinds.{kind_of_curve, kind_byte, body_length};
+ghost use Rattle.std.specs.Option.{ok_or};
+ghost use Rattle.sheet.specs.Kinds.{kind_of, kind_of_curve, kind_byte, body_length};
+ghost use Rattle.sheet.specs.declared.fault.RecordFault.TheVariants.{UnknownKind};
 
+use crate::fault::RecordFault;
 use curve::written::Written;
 
-pub(crate) const SQUARE: u8 = 1;
+// Each kind counts as its byte.
+#[derive(Clone, Copy)]
+pub(crate) enum Kind {
+    Square = 1,
+    Band = 2,
+    Knees = 3,
+}
 
-pub(crate) const BAND: u8 = 2;
+impl TryFrom<u8> for Kind {
+    type Error = RecordFault;
 
-pub(crate) const KNEES: u8 = 3;
+    ghost try_from_gives = { λ byte kind. kind ≡ ok_or (kind_of byte) UnknownKind };
 
-pub(crate) const SQUARE_BODY: usize = 18;
-
-pub(crate) const BAND_BODY: usize = 24;
-
-pub(crate) const KNEES_BODY: usize = 61;
-
-pub(crate) fn kind_byte(curve: &Written) -> u8
-    ensures { result ≡ kind_byte (kind_of_curve curve.now) }
-{
-    match *curve {
-        Written::Square { .. } => SQUARE,
-        Written::Band { .. } => BAND,
-        Written::Knees { .. } => KNEES,
+    fn try_from(byte: u8) -> Result<Kind, RecordFault> {
+        match byte {
+            1 => Ok(Kind::Square),
+            2 => Ok(Kind::Band),
+            3 => Ok(Kind::Knees),
+            _ => Err(RecordFault::UnknownKind),
+        }
     }
 }
 
-pub(crate) fn body_length(curve: &Written) -> usize
-    ensures { result ≡ body_length (kind_of_curve curve.now) }
-{
-    match *curve {
-        Written::Square { .. } => SQUARE_BODY,
-        Written::Band { .. } => BAND_BODY,
-        Written::Knees { .. } => KNEES_BODY,
+impl From<&Written> for Kind {
+    ghost from_gives = { λ curve kind. kind ≡ kind_of_curve curve.now };
+
+    fn from(curve: &Written) -> Kind {
+        match *curve {
+            Written::Square { .. } => Kind::Square,
+            Written::Band { .. } => Kind::Band,
+            Written::Knees { .. } => Kind::Knees,
+        }
+    }
+}
+
+impl Kind {
+    pub(crate) fn byte(self) -> u8
+        ensures { result ≡ kind_byte self }
+    {
+        self as u8
+    }
+
+    pub(crate) fn body_length(self) -> usize
+        ensures { result ≡ body_length self }
+    {
+        match self {
+            Kind::Square => 18,
+            Kind::Band => 24,
+            Kind::Knees => 61,
+        }
     }
 }

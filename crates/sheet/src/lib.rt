@@ -3,9 +3,11 @@
 
 mod body;
 pub mod fault;
+mod fields;
 mod kinds;
-mod numbers;
 pub mod read;
+mod reader;
 mod record;
 pub mod sheets;
 pub mod write;
+mod writer;

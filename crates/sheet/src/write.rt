@@ -1,133 +1,88 @@
 // Writing a day as a sheet.
-ghost use Rattle.std.specs.Prelude.{◌≡◌, ◌+◌, ◌<◌, ◌≤◌, ◌++◌, length, take, drop, pos, IfOk};
-ghost use Rattle.std.specs.Int.{w32};
-ghost use Rattle.std.proofs.Common.{of_z};
+ghost use Rattle.std.specs.Prelude.{◌≡◌, ◌+◌, ◌≤◌, ◌++◌, length, take, drop, IfOk};
 ghost use Rattle.curve.specs.Limits.{knee_limit};
-ghost use Rattle.curve.specs.declared.written.Written.TheVariants.{Knees};
 ghost use Rattle.slots.specs.Limits.{most_slots};
 ghost use Rattle.slots.specs.Refusals.{told};
 ghost use Rattle.day.specs.View.{plain};
-ghost use Rattle.sheet.specs.Buffers.{over};
+ghost use Rattle.sheet.specs.Buffers.{Puts};
+ghost use Rattle.sheet.specs.Fields.{size, packed};
+ghost use Rattle.sheet.specs.Kinds.{knee_fields, curve_fields, kind_of_curve, body_length};
 ghost use Rattle.sheet.specs.Records.{encode_slot};
-ghost use Rattle.sheet.specs.SlotFields.{used, curve_bytes};
+ghost use Rattle.sheet.specs.SlotFields.{knee_values, curve_bytes};
 ghost use Rattle.sheet.specs.RoundTrips.{ReadsBack};
 ghost use Rattle.sheet.specs.Sheets.{encode, write_refusal, written_over};
 
-use crate::kinds::{body_length, kind_byte};
-use crate::numbers::put_all;
+use crate::kinds::Kind;
+use crate::writer::Writer;
+use curve::limits::KNEE_LIMIT;
 use curve::written::Written;
 use day::day::Day;
 use slots::refusal::Refusal;
 use slots::slot::Slot;
 
-// What is written of a knee's level: 0 if the count does not reach it.
-fn used_level(count: u8, levels: [u16; 6], place: usize) -> u64
-    requires { place < knee_limit }
-    ensures { result ≡ used count place levels 0 }
+// Writes the knees of a curve: those past the count are zero.
+fn put_knees(writer: &mut Writer, count: u8, levels: &[u16; 6], steps: &[i32; 6])
+    requires { writer.old.place + size (knee_fields knee_limit) ≤ length writer.old.out.now }
+    ensures { Puts writer.old (packed (knee_fields knee_limit) (knee_values knee_limit 0 count levels.now steps.now)) writer.new }
 {
-    if place < count as usize {
-        levels[place] as u64
-    } else {
-        0
+    for k in 0..KNEE_LIMIT {
+        let (level, step) = if k < count as usize {
+            (levels[k], steps[k])
+        } else {
+            (0, 0)
+        };
+        writer.put(level.to_be_bytes());
+        writer.put(step.to_be_bytes());
     }
 }
 
-// And of its step.
-fn used_step(count: u8, steps: [i32; 6], place: usize) -> u64
-    requires { place < knee_limit }
-    ensures { result ≡ of_z w32 (used count place steps (pos 0)) }
+// Writes the fields of a curve.
+fn put_curve(writer: &mut Writer, curve: &Written)
+    requires { writer.old.place + size (curve_fields (kind_of_curve curve.now)) ≤ length writer.old.out.now }
+    ensures { Puts writer.old (curve_bytes curve.now) writer.new }
 {
-    if place < count as usize {
-        steps[place].cast_unsigned() as u64
-    } else {
-        0
-    }
-}
-
-// Writes the fields of a knees curve from a place on, and answers the place after them.
-fn put_knees(
-    out: &mut [u8],
-    place: usize,
-    ground: i64,
-    first: i32,
-    count: u8,
-    levels: [u16; 6],
-    steps: [i32; 6],
-) -> usize
-    requires { place + length (curve_bytes (Knees ground first count levels steps)) ≤ length out.old }
-    ensures bytes { out.new ≡ over (curve_bytes (Knees ground first count levels steps)) place out.old }
-    ensures place { result ≡ place + length (curve_bytes (Knees ground first count levels steps)) }
-{
-    let entries = [
-        (8, ground.cast_unsigned()),
-        (4, first.cast_unsigned() as u64),
-        (1, count as u64),
-        (2, used_level(count, levels, 0)),
-        (4, used_step(count, steps, 0)),
-        (2, used_level(count, levels, 1)),
-        (4, used_step(count, steps, 1)),
-        (2, used_level(count, levels, 2)),
-        (4, used_step(count, steps, 2)),
-        (2, used_level(count, levels, 3)),
-        (4, used_step(count, steps, 3)),
-        (2, used_level(count, levels, 4)),
-        (4, used_step(count, steps, 4)),
-        (2, used_level(count, levels, 5)),
-        (4, used_step(count, steps, 5)),
-    ];
-    put_all(out, place, &entries)
-}
-
-// Writes the fields of a curve from a place on, and answers the place after them.
-fn put_curve(out: &mut [u8], place: usize, curve: &Written) -> usize
-    requires { place + length (curve_bytes curve.now) ≤ length out.old }
-    ensures bytes { out.new ≡ over (curve_bytes curve.now) place out.old }
-    ensures place { result ≡ place + length (curve_bytes curve.now) }
-{
-    match *curve {
+    match curve {
         Written::Square { weight, target } => {
-            put_all(out, place, &[(4, weight as u64), (2, target as u64)])
+            writer.put(weight.to_be_bytes());
+            writer.put(target.to_be_bytes());
         }
         Written::Band {
             cold,
             warm,
             cold_rate,
             warm_rate,
-        } => put_all(
-            out,
-            place,
-            &[
-                (2, cold as u64),
-                (2, warm as u64),
-                (4, cold_rate as u64),
-                (4, warm_rate as u64),
-            ],
-        ),
+        } => {
+            writer.put(cold.to_be_bytes());
+            writer.put(warm.to_be_bytes());
+            writer.put(cold_rate.to_be_bytes());
+            writer.put(warm_rate.to_be_bytes());
+        }
         Written::Knees {
             ground,
             first,
             count,
             levels,
             steps,
-        } => put_knees(out, place, ground, first, count, levels, steps),
+        } => {
+            writer.put(ground.to_be_bytes());
+            writer.put(first.to_be_bytes());
+            writer.put(count.to_be_bytes());
+            put_knees(writer, *count, levels, steps);
+        }
     }
 }
 
-// Writes a slot's record from a place on, and answers the place after it.
-fn put_slot(out: &mut [u8], place: usize, slot: &Slot<Written>) -> usize
-    requires { place + length (encode_slot slot.now) ≤ length out.old }
-    ensures bytes { out.new ≡ over (encode_slot slot.now) place out.old }
-    ensures place { result ≡ place + length (encode_slot slot.now) }
+// Writes a slot's record.
+fn put_slot(writer: &mut Writer, slot: &Slot<Written>)
+    requires { writer.old.place + (1 + body_length (kind_of_curve slot.now.curve)) ≤ length writer.old.out.now }
+    ensures { Puts writer.old (encode_slot slot.now) writer.new }
 {
-    let entries = [
-        (1, kind_byte(&slot.curve) as u64),
-        (2, slot.low as u64),
-        (2, slot.high as u64),
-        (4, slot.up as u64),
-        (4, slot.down as u64),
-    ];
-    let curve_place = put_all(out, place, &entries);
-    put_curve(out, curve_place, &slot.curve)
+    writer.put([Kind::from(&slot.curve).byte()]);
+    writer.put(slot.low.to_be_bytes());
+    writer.put(slot.high.to_be_bytes());
+    writer.put(slot.up.to_be_bytes());
+    writer.put(slot.down.to_be_bytes());
+    put_curve(writer, &slot.curve);
 }
 
 // The length of the sheet of slots.
@@ -135,11 +90,10 @@ fn sheet_length(slots: &[Slot<Written>]) -> usize
     requires { length slots.now ≤ most_slots }
     ensures { result ≡ length (encode slots.now) }
 {
-    let mut total = 0;
-    for slot in slots {
-        total += 1 + body_length(&slot.curve);
-    }
-    total
+    slots
+        .iter()
+        .map(|slot| 1 + Kind::from(&slot.curve).body_length())
+        .sum()
 }
 
 // Writes the sheet of slots over the first of a buffer.
@@ -147,9 +101,9 @@ fn put_slots(out: &mut [u8], slots: &[Slot<Written>])
     requires { length (encode slots.now) ≤ length out.old }
     ensures { out.new ≡ encode slots.now ++ drop (length (encode slots.now)) out.old }
 {
-    let mut place = 0;
+    let mut writer = Writer { out, place: 0 };
     for slot in slots {
-        place = put_slot(out, place, slot);
+        put_slot(&mut writer, slot);
     }
 }
 

@@ -13,15 +13,15 @@ pub(crate) fn knees(
     ground: i64,
     first: i32,
     count: u8,
-    levels: [u16; 2],
-    steps: [i32; 2],
+    [level, next_level]: [u16; 2],
+    [step, next_step]: [i32; 2],
 ) -> Written {
     Written::Knees {
         ground,
         first,
         count,
-        levels: [levels[0], levels[1], 0, 0, 0, 0],
-        steps: [steps[0], steps[1], 0, 0, 0, 0],
+        levels: [level, next_level, 0, 0, 0, 0],
+        steps: [step, next_step, 0, 0, 0, 0],
     }
 }
 
@@ -98,31 +98,19 @@ pub(crate) fn widest() -> [Slot<Written>; 3] {
     ]
 }
 
-fn put_u16(sheet: &mut Vec<u8>, number: u16) -> Result<(), AllocError> {
-    sheet.extend_from_slice(&number.to_be_bytes())
-}
-
-fn put_u32(sheet: &mut Vec<u8>, number: u32) -> Result<(), AllocError> {
-    sheet.extend_from_slice(&number.to_be_bytes())
-}
-
-fn put_i32(sheet: &mut Vec<u8>, number: i32) -> Result<(), AllocError> {
-    sheet.extend_from_slice(&number.to_be_bytes())
-}
-
 fn put_knees(sheet: &mut Vec<u8>, levels: &[u16; 6], steps: &[i32; 6]) -> Result<(), AllocError> {
-    for k in 0..6usize {
-        put_u16(sheet, levels[k])?;
-        put_i32(sheet, steps[k])?;
+    for (level, step) in levels.iter().zip(steps) {
+        sheet.extend_from_slice(&level.to_be_bytes())?;
+        sheet.extend_from_slice(&step.to_be_bytes())?;
     }
     Ok(())
 }
 
 fn put_curve(sheet: &mut Vec<u8>, curve: &Written) -> Result<(), AllocError> {
-    match *curve {
+    match curve {
         Written::Square { weight, target } => {
-            put_u32(sheet, weight)?;
-            put_u16(sheet, target)
+            sheet.extend_from_slice(&weight.to_be_bytes())?;
+            sheet.extend_from_slice(&target.to_be_bytes())
         }
         Written::Band {
             cold,
@@ -130,10 +118,10 @@ fn put_curve(sheet: &mut Vec<u8>, curve: &Written) -> Result<(), AllocError> {
             cold_rate,
             warm_rate,
         } => {
-            put_u16(sheet, cold)?;
-            put_u16(sheet, warm)?;
-            put_u32(sheet, cold_rate)?;
-            put_u32(sheet, warm_rate)
+            sheet.extend_from_slice(&cold.to_be_bytes())?;
+            sheet.extend_from_slice(&warm.to_be_bytes())?;
+            sheet.extend_from_slice(&cold_rate.to_be_bytes())?;
+            sheet.extend_from_slice(&warm_rate.to_be_bytes())
         }
         Written::Knees {
             ground,
@@ -143,9 +131,9 @@ fn put_curve(sheet: &mut Vec<u8>, curve: &Written) -> Result<(), AllocError> {
             steps,
         } => {
             sheet.extend_from_slice(&ground.to_be_bytes())?;
-            put_i32(sheet, first)?;
-            sheet.push(count)?;
-            put_knees(sheet, &levels, &steps)
+            sheet.extend_from_slice(&first.to_be_bytes())?;
+            sheet.push(*count)?;
+            put_knees(sheet, levels, steps)
         }
     }
 }
@@ -160,10 +148,10 @@ fn kind_of(curve: &Written) -> u8 {
 
 fn put_slot(sheet: &mut Vec<u8>, slot: &Slot<Written>) -> Result<(), AllocError> {
     sheet.push(kind_of(&slot.curve))?;
-    put_u16(sheet, slot.low)?;
-    put_u16(sheet, slot.high)?;
-    put_u32(sheet, slot.up)?;
-    put_u32(sheet, slot.down)?;
+    sheet.extend_from_slice(&slot.low.to_be_bytes())?;
+    sheet.extend_from_slice(&slot.high.to_be_bytes())?;
+    sheet.extend_from_slice(&slot.up.to_be_bytes())?;
+    sheet.extend_from_slice(&slot.down.to_be_bytes())?;
     put_curve(sheet, &slot.curve)
 }
 

@@ -1,18 +1,12 @@
-use Rattle.std.proofs.Common.{List, refl, ◌∙◌, ap₂}
+use Rattle.std.proofs.Common.{List, ◌∙◌, ap₂}
 use Rattle.curve.specs.declared.written.Written.{Written}
 use Rattle.day.specs.View.{room_of}
 use Rattle.slots.specs.declared.slot.Slot.{Slot}
 use Rattle.sheet.proofs.Clearing.{dropped, emptied}
 use Rattle.sheet.proofs.read.clear.Goals as goal
 
-pub loop-init : goal.loop-init
-loop-init c = (refl, refl)
-
 pub loop-smaller : goal.loop-smaller
 loop-smaller c = dropped c.loop.day c.drop.new.self c.drop.result c.drop.ensures.answer c.drop.ensures.day c.loop-test.ensures.value
-
-pub loop-preserved : goal.loop-preserved
-loop-preserved c = (c.drop.ensures.memory ∙ c.loop.invariant.0, c.drop.ensures.lender ∙ c.loop.invariant.1)
 
 pub returns : goal.returns
 returns c =

@@ -1,47 +1,38 @@
-use Rattle.std.proofs.Common.{ap, arith, length-take}
+use Rattle.std.proofs.Common.{◌≡◌, ap, ◌∙◌, arith}
 use Rattle.std.proofs.lemmas.Result.{err_from_is_err_and}
-use Rattle.sheet.specs.Kinds.{square, band, knees, kind_of}
-use Rattle.sheet.proofs.Decoding.{record_cut, record_taken, record_unknown}
+use Rattle.sheet.specs.SlotFields.{slot_in}
+use Rattle.sheet.specs.declared.fault.RecordFault.TheVariants.{CutShort}
+use Rattle.sheet.proofs.Decoding.{known_by, record_unknown, record_cut, record_refused, record_taken}
 use Rattle.sheet.proofs.record.record.Goals as goal
 
-pub returns-in_err-cut-in-1 : goal.returns-in_err-cut-in-1
-returns-in_err-cut-in-1 c =
+pub returns-in_err-kind : goal.returns-in_err-kind
+returns-in_err-kind c =
     let p = err_from_is_err_and c.from_residual.result c.from_residual.ensures.1 in
-    let told = c.in_err-cut-in-1.ensures in
-    rw (p.1, p.2, told.1) (record_cut square c.args.kind c.args.rest.now (ap kind_of c.in-1.is) told.0)
+    rw (p.1, p.2) (record_unknown c.args.kind c.args.rest.now _ c.in_err-kind.ensures)
 
-pub returns-in_err-cut-in-2 : goal.returns-in_err-cut-in-2
-returns-in_err-cut-in-2 c =
-    let p = err_from_is_err_and c.from_residual-in_err-cut-in-2.result c.from_residual-in_err-cut-in-2.ensures.1 in
-    let told = c.in_err-cut-in-2.ensures in
-    rw (p.1, p.2, told.1) (record_cut band c.args.kind c.args.rest.now (ap kind_of c.in-2.is) told.0)
+pub returns-in_err-body : goal.returns-in_err-body
+returns-in_err-body c =
+    let p = err_from_is_err_and c.from_residual-in_err-body.result c.from_residual-in_err-body.ensures.1 in
+    let short = rw c.in_err-body.ensures.ok_part at c.split_at_checked.ensures.cases in
+    let why = rw c.in_err-body.ensures.ok_part at c.in_err-body.ensures.value in
+    let fault : c.in_err-body.field-0.0 ≡ CutShort = cc why in
+    rw (p.1, p.2, fault) (record_cut c.in_ok-kind.kind c.args.kind c.args.rest.now (known_by _ _ c.in_ok-kind.ensures) (omega (arith, c.body_length.ensures)))
 
-pub band_slot-requires : goal.band_slot-requires
-band_slot-requires c = let cut = c.in_ok-cut-in-2.ensures in rw cut.1 (simp length-take (omega arith))
+pub returns-in_err-test : goal.returns-in_err-test
+returns-in_err-test c =
+    let p = err_from_is_err_and c.from_residual-in_err-test.result c.from_residual-in_err-test.ensures.1 in
+    let split = rw c.in_ok-body.ensures.ok_part at c.split_at_checked.ensures.cases in
+    let cut = rw c.body_length.ensures at split.1 in
+    rw (p.1, p.2) (
+    record_refused c.in_ok-kind.kind c.args.kind c.args.rest.now (known_by _ _ c.in_ok-kind.ensures) c.slot_in-slot.result _
+    (omega (arith, c.body_length.ensures)) (c.slot_in-slot.ensures ∙ ap (slot_in c.in_ok-kind.kind) cut) c.in_err-test.ensures)
 
-pub returns-in_err-cut-in-3 : goal.returns-in_err-cut-in-3
-returns-in_err-cut-in-3 c =
-    let p = err_from_is_err_and c.from_residual-in_err-cut-in-3.result c.from_residual-in_err-cut-in-3.ensures.1 in
-    let told = c.in_err-cut-in-3.ensures in
-    rw (p.1, p.2, told.1) (record_cut knees c.args.kind c.args.rest.now (ap kind_of c.in-3.is) told.0)
-
-pub knees_slot-requires : goal.knees_slot-requires
-knees_slot-requires c = let cut = c.in_ok-cut-in-3.ensures in rw cut.1 (simp length-take (omega arith))
-
-pub returns-in_ok-cut-in-1 : goal.returns-in_ok-cut-in-1
-returns-in_ok-cut-in-1 c =
-    let cut = c.in_ok-cut-in-1.ensures in
-    record_taken square c.args.kind c.args.rest.now (ap kind_of c.in-1.is) _ c.square_slot.result c.taken.result cut.0 cut.1 c.square_slot.ensures c.taken.ensures
-
-pub returns-in_ok-cut-in-2 : goal.returns-in_ok-cut-in-2
-returns-in_ok-cut-in-2 c =
-    let cut = c.in_ok-cut-in-2.ensures in
-    record_taken band c.args.kind c.args.rest.now (ap kind_of c.in-2.is) _ c.band_slot.result c.taken-in-2.result cut.0 cut.1 c.band_slot.ensures c.taken-in-2.ensures
-
-pub returns-in_ok-cut-in-3 : goal.returns-in_ok-cut-in-3
-returns-in_ok-cut-in-3 c =
-    let cut = c.in_ok-cut-in-3.ensures in
-    record_taken knees c.args.kind c.args.rest.now (ap kind_of c.in-3.is) _ c.knees_slot.result c.taken-in-3.result cut.0 cut.1 c.knees_slot.ensures c.taken-in-3.ensures
-
-pub returns-in_default : goal.returns-in_default
-returns-in_default c = record_unknown c.args.kind c.args.rest.now (omega arith) (omega arith) (omega arith)
+pub returns : goal.returns
+returns c =
+    let split = rw c.in_ok-body.ensures.ok_part at c.split_at_checked.ensures.cases in
+    let cut = rw c.body_length.ensures at split.1 in
+    let taken =
+    record_taken c.in_ok-kind.kind c.args.kind c.args.rest.now (known_by _ _ c.in_ok-kind.ensures) c.slot_in-slot.result
+    (omega (arith, c.body_length.ensures)) (c.slot_in-slot.ensures ∙ ap (slot_in c.in_ok-kind.kind) cut) c.in_ok-test.ensures
+    in
+    (_, taken, omega (arith, c.body_length.ensures), rw c.body_length.ensures at split.2)

@@ -1,48 +1,51 @@
-use Rattle.std.proofs.Common.{◌≡◌, ℕ, ◌+◌, ◌≤◌, List, length, pos, sym, ap, ◌∙◌, subst, w32, w64, of_z}
+use Rattle.std.proofs.Common.{◌≡◌, ℕ, ℤ, pos, length, get_or, sym, ap, ◌∙◌, ◌++◌, zero-add, add-one, arith, w32, SFits, to_z, of_z, lt-ltb, le-ltb, rules}
 use Rattle.std.proofs.lemmas.Int.{to_z-of_z}
-use Rattle.sheet.specs.Buffers.{over, all_bytes}
 use Rattle.sheet.specs.SlotFields.{used}
-use Rattle.sheet.proofs.RecordBytes.{knees_entries, same_entries}
+use Rattle.sheet.specs.Numbers.{big_endian}
+use Rattle.sheet.proofs.Overwriting.{puts_then, puts_as, puts_number}
+use Rattle.sheet.proofs.RecordBytes.{knee_bytes, knees_bytes, knee_more, length_knees}
 use Rattle.sheet.proofs.write.put_knees.Goals as goal
-use Rattle.sheet.proofs.write.put_knees.Goals.{After-used_step-6}
+use Rattle.sheet.proofs.write.put_knees.Goals.{then-k-count, else-k-count}
 
--- the numbers that are put are those of the curve
-same :
-    (c : After-used_step-6) →
-    knees_entries c.cast_unsigned.result c.cast_unsigned-2.result c.args.count c.used_level.result c.used_step.result c.used_level-2.result c.used_step-2.result c.used_level-3.result c.used_step-3.result c.used_level-4.result c.used_step-4.result c.used_level-5.result c.used_step-5.result c.used_level-6.result c.used_step-6.result
-    ≡ knees_entries (of_z w64 c.args.ground) (of_z w32 c.args.first) c.args.count
-    (used c.args.count 0 c.args.levels 0) (of_z w32 (used c.args.count 0 c.args.steps (pos 0)))
-    (used c.args.count 1 c.args.levels 0) (of_z w32 (used c.args.count 1 c.args.steps (pos 0)))
-    (used c.args.count 2 c.args.levels 0) (of_z w32 (used c.args.count 2 c.args.steps (pos 0)))
-    (used c.args.count 3 c.args.levels 0) (of_z w32 (used c.args.count 3 c.args.steps (pos 0)))
-    (used c.args.count 4 c.args.levels 0) (of_z w32 (used c.args.count 4 c.args.steps (pos 0)))
-    (used c.args.count 5 c.args.levels 0) (of_z w32 (used c.args.count 5 c.args.steps (pos 0)))
-same c =
-    same_entries
-    (c.cast_unsigned.ensures ∙ ap (of_z w64) (to_z-of_z w64 c.args.ground c.ranges.ground))
-    (c.cast_unsigned-2.ensures ∙ ap (of_z w32) (to_z-of_z w32 c.args.first c.ranges.first))
-    c.used_level.ensures
-    c.used_step.ensures
-    c.used_level-2.ensures
-    c.used_step-2.ensures
-    c.used_level-3.ensures
-    c.used_step-3.ensures
-    c.used_level-4.ensures
-    c.used_step-4.ensures
-    c.used_level-5.ensures
-    c.used_step-5.ensures
-    c.used_level-6.ensures
-    c.used_step-6.ensures
+pub put-requires : goal.put-requires
+put-requires c =
+    let done = length_knees c.args.count c.args.levels.now c.args.steps.now c.loop-k.k 0 in
+    omega (arith, c.requires, c.loop-k.invariant.place, c.loop-k.invariant.size)
 
-pub put_all-requires : goal.put_all-requires
-put_all-requires c =
-    let P : List (ℕ × ℕ) → Type 0 = λ entries. c.args.place + length (all_bytes entries) ≤ length c.args.out.now in
-    subst P (sym (same (goal.at.put_all-requires c).After-used_step-6)) c.requires
+pub put-requires-in-loop-k : goal.put-requires-in-loop-k
+put-requires-in-loop-k c =
+    let done = length_knees c.args.count c.args.levels.now c.args.steps.now c.loop-k.k 0 in
+    let written : length c.to_be_bytes.result ≡ 2 = rw c.to_be_bytes.ensures in
+    omega (arith, c.requires, c.loop-k.invariant.place, c.loop-k.invariant.size, c.put.ensures.place, c.put.ensures.size)
+
+pub loop-k-preserved : goal.loop-k-preserved
+loop-k-preserved c =
+    let count = c.args.count in
+    let k = c.loop-k.k in
+    let levels = c.args.levels.now in
+    let steps = c.args.steps.now in
+    let level : c.if-k-count.level.0 ≡ used count k levels 0 =
+    elim c.if-k-count.branch [
+      | then-k-count w ↦ let t = lt-ltb k count w.if-k-count.true in ap (λ (p : ℕ × ℤ). p.0) w.level-is ∙ rw t
+      | else-k-count w ↦ let t = le-ltb k count w.if-k-count.false in ap (λ (p : ℕ × ℤ). p.0) w.level-is ∙ rw t
+    ]
+    in
+    let step : to_z w32 (of_z w32 c.if-k-count.level.1) ≡ used count k steps (pos 0) =
+    elim c.if-k-count.branch [
+      | then-k-count w ↦
+          let t = lt-ltb k count w.if-k-count.true in
+          let fits : SFits w32 (get_or steps k (pos 0)) = search rules in
+          ap (λ (p : ℕ × ℤ). to_z w32 (of_z w32 p.1)) w.level-is ∙ ap (λ (z : ℤ). to_z w32 (of_z w32 z)) (to_z-of_z w32 _ fits) ∙ to_z-of_z w32 _ fits ∙ rw t
+      | else-k-count w ↦ let t = le-ltb k count w.if-k-count.false in ap (λ (p : ℕ × ℤ). to_z w32 (of_z w32 p.1)) w.level-is ∙ rw t
+    ]
+    in
+    let first = puts_as (puts_number 2 _ c.put.ensures c.to_be_bytes.ensures) (ap (big_endian 2) level) in
+    let second = puts_as (puts_number 4 _ c.put-in-loop-k.ensures c.to_be_bytes-in-loop-k.ensures) (ap (λ (z : ℤ). big_endian 4 (of_z w32 z)) step) in
+    let next = knee_more count levels steps k 0 ∙ ap (λ (n : ℕ). knees_bytes count levels steps k 0 ++ knee_bytes count levels steps n) (zero-add k) in
+    let more = puts_as (puts_then c.loop-k.invariant (puts_then first second)) (sym next) in
+    rw (add-one k) more
 
 pub returns : goal.returns
 returns c =
-    let entries = same (goal.at.returns c).After-used_step-6 in
-    record {
-      bytes = c.put_all.ensures.bytes ∙ ap (λ (entries : List (ℕ × ℕ)). over (all_bytes entries) c.args.place c.args.out.now) entries;
-      place = c.put_all.ensures.place ∙ ap (λ (entries : List (ℕ × ℕ)). c.args.place + length (all_bytes entries)) entries;
-    }
+    let all : c.loop-k.k ≡ 6 = omega arith in
+    rw all at c.loop-k.invariant

@@ -1,35 +1,15 @@
-use Rattle.std.proofs.Common.{◌≡◌, ℕ, ◌+◌, List, length, sym, ap, ◌∙◌, ap₂, arith, length-append}
-use Rattle.sheet.specs.Buffers.{over, all_bytes}
+use Rattle.std.proofs.Common.{ℕ, [], ◌∷◌, ap, ◌∙◌}
+use Rattle.sheet.specs.Kinds.{kind_byte}
 use Rattle.sheet.specs.Records.{encode_slot}
-use Rattle.sheet.specs.SlotFields.{curve_bytes}
-use Rattle.sheet.proofs.Overwriting.{over_over}
-use Rattle.sheet.proofs.RecordBytes.{head_entries, slot_bytes}
+use Rattle.sheet.proofs.Overwriting.{puts_then, puts_as, puts_number}
 use Rattle.sheet.proofs.write.put_slot.Goals as goal
-use Rattle.sheet.proofs.write.put_slot.Goals.{After-kind_byte}
-
-sizes : (c : After-kind_byte) → length (all_bytes (head_entries c.kind_byte.result c.args.slot.now)) + length (curve_bytes c.args.slot.now.curve) ≡ length (encode_slot c.args.slot.now)
-sizes c =
-    let s = c.args.slot.now in
-    sym (length-append (all_bytes (head_entries c.kind_byte.result s)) (curve_bytes s.curve)) ∙ ap length (slot_bytes s c.kind_byte.result c.kind_byte.ensures)
-
-pub put_all-curve_place-requires : goal.put_all-curve_place-requires
-put_all-curve_place-requires c = omega (arith, sizes (goal.at.put_all-curve_place-requires c).After-kind_byte, c.requires)
-
-pub put_curve-requires : goal.put_curve-requires
-put_curve-requires c = omega (arith, sizes (goal.at.put_curve-requires c).After-kind_byte, c.requires, c.put_all-curve_place.ensures.place)
 
 pub returns : goal.returns
+unfolding encode_slot
 returns c =
-    let s = c.args.slot.now in
-    let out = c.args.out.now in
-    let place = c.args.place in
-    let head = all_bytes (head_entries c.kind_byte.result s) in
-    let first = c.put_all-curve_place.ensures in
-    record {
-      bytes =
-          c.put_curve.ensures.bytes
-          ∙ ap₂ (λ (at : ℕ) (was : List ℕ). over (curve_bytes s.curve) at was) first.place first.bytes
-          ∙ over_over head (curve_bytes s.curve) place out (omega arith)
-          ∙ ap (λ (bytes : List ℕ). over bytes place out) (slot_bytes s c.kind_byte.result c.kind_byte.ensures);
-      place = c.put_curve.ensures.place ∙ omega (arith, sizes (goal.at.returns c).After-kind_byte, first.place);
-    }
+    let kind = puts_as c.put.ensures (ap (λ (b : ℕ). b ∷ []) (c.byte.ensures ∙ ap kind_byte c.from.ensures)) in
+    let low = puts_number 2 _ c.put-2.ensures c.to_be_bytes.ensures in
+    let high = puts_number 2 _ c.put-3.ensures c.to_be_bytes-2.ensures in
+    let up = puts_number 4 _ c.put-4.ensures c.to_be_bytes-3.ensures in
+    let down = puts_number 4 _ c.put-5.ensures c.to_be_bytes-4.ensures in
+    puts_then kind (puts_then low (puts_then high (puts_then up (puts_then down c.put_curve.ensures))))

@@ -1,50 +1,30 @@
-use Rattle.std.proofs.Common.{◌≡◌, ℕ, ◌+◌, List, ◌++◌, length, get_or, take, drop, sym, refl, ap, ◌∙◌, ap₂, zero-add, arith, length-append}
-use Rattle.std.proofs.lemmas.List.{take_all, get_or_default}
-use Rattle.sheet.specs.Buffers.{over}
+use Rattle.std.proofs.Common.{[], get_or, take, ap, ◌∙◌, sym, arith}
+use Rattle.std.proofs.lemmas.List.{take_more, flat_map_more}
+use Rattle.std.proofs.lemmas.List.Folds.{length-flat_map-take}
+use Rattle.std.specs.List.{flat_map}
 use Rattle.sheet.specs.Records.{encode_slot}
 use Rattle.sheet.specs.Sheets.{encode}
-use Rattle.sheet.proofs.Overwriting.{over_none, over_over, joined_next, joined_room}
-use Rattle.sheet.proofs.RecordBytes.{blank}
+use Rattle.sheet.proofs.Overwriting.{puts_nothing, puts_then, puts_as}
+use Rattle.sheet.proofs.RecordBytes.{blank, length_encode_slot}
 use Rattle.sheet.proofs.write.put_slots.Goals as goal
 
 pub loop-slot-init : goal.loop-slot-init
 unfolding encode
-loop-slot-init c = (refl, over_none 0 c.args.out.now)
+loop-slot-init c = puts_nothing _ (omega arith)
 
-pub put_slot-place-requires : goal.put_slot-place-requires
+pub put_slot-requires : goal.put_slot-requires
 unfolding encode
-put_slot-place-requires c =
+put_slot-requires c =
     let slots = c.args.slots.now in
     let i = c.loop-slot.slot-index in
-    let s = get_or slots i blank in
-    let is = get_or_default slots i blank s c.loop-slot-test.true in
-    let room = joined_room encode_slot slots i s c.loop-slot-test.true is in
-    omega (arith, c.loop-slot.invariant.0, c.requires)
+    let room = length-flat_map-take encode_slot slots i blank c.loop-slot-test.true in
+    let size = length_encode_slot (get_or slots i blank) in
+    omega (arith, c.loop-slot.invariant.place, c.loop-slot.invariant.size, c.requires)
 
 pub loop-slot-preserved : goal.loop-slot-preserved
 unfolding encode
 loop-slot-preserved c =
     let slots = c.args.slots.now in
     let i = c.loop-slot.slot-index in
-    let s = get_or slots i blank in
-    let is = get_or_default slots i blank s c.loop-slot-test.true in
-    let out = c.args.out.now in
-    let bytes = encode (take i slots) in
-    let next = joined_next encode_slot slots i s c.loop-slot-test.true is in
-    let sizes = simp length-append at (ap length next) in
-    let place : c.loop-slot.place ≡ 0 + length bytes = omega (arith, c.loop-slot.invariant.0) in
-    let put = c.put_slot-place.ensures in (
-      omega (arith, c.loop-slot.invariant.0, put.place),
-      put.bytes
-          ∙ ap₂ (λ (at : ℕ) (was : List ℕ). over (encode_slot s) at was) place c.loop-slot.invariant.1
-          ∙ over_over bytes (encode_slot s) 0 out (omega arith)
-          ∙ ap (λ (bytes : List ℕ). over bytes 0 out) (sym next),
-    )
-
-pub returns : goal.returns
-returns c =
-    let slots = c.args.slots.now in
-    let out = c.args.out.now in
-    let whole = take_all c.loop-slot.slot-index slots (omega arith) in
-    let all = rw whole at c.loop-slot.invariant.1 in
-    all ∙ ap (λ (n : ℕ). encode slots ++ drop n out) (zero-add (length (encode slots)))
+    let next = flat_map_more encode_slot [] (take i slots) (get_or slots i blank) ∙ ap (flat_map encode_slot) (sym (take_more slots i blank c.loop-slot-test.true)) in
+    puts_as (puts_then c.loop-slot.invariant c.put_slot.ensures) next

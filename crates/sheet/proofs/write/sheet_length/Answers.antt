@@ -1,27 +1,21 @@
-use Rattle.std.proofs.Common.{length, get_or, refl, ap, arith, length-append}
-use Rattle.std.proofs.lemmas.List.{take_all, get_or_default}
-use Rattle.sheet.specs.Kinds.{kind_of_curve}
+use Rattle.std.proofs.Common.{◌≡◌, ℕ, ◌+◌, List, [], ◌∷◌, length, sym, refl, ◌∙◌, ap₂, length-append, rules}
+use Rattle.std.proofs.lemmas.List.Sums.{sum_by-cons}
+use Rattle.std.specs.Prelude.{sum_by}
+use Rattle.curve.specs.declared.written.Written.{Written}
+use Rattle.slots.specs.declared.slot.Slot.{Slot}
+use Rattle.sheet.specs.Kinds.{kind_of_curve, body_length}
 use Rattle.sheet.specs.Records.{encode_slot}
 use Rattle.sheet.specs.Sheets.{encode}
-use Rattle.sheet.proofs.Overwriting.{joined_next}
-use Rattle.sheet.proofs.RecordBytes.{blank, length_encode_slot, body_small}
+use Rattle.sheet.proofs.RecordBytes.{length_encode_slot}
 use Rattle.sheet.proofs.write.sheet_length.Goals as goal
 
-pub loop-slot-init : goal.loop-slot-init
-unfolding encode
-loop-slot-init c = (refl, omega arith)
+abbrev record_length : Slot Written → ℕ
+record_length s = 1 + body_length (kind_of_curve s.curve)
 
-pub loop-slot-preserved : goal.loop-slot-preserved
+lengths : (slots : List (Slot Written)) → sum_by record_length slots ≡ length (encode slots)
 unfolding encode
-loop-slot-preserved c =
-    let slots = c.args.slots.now in
-    let i = c.loop-slot.slot-index in
-    let s = get_or slots i blank in
-    let is = get_or_default slots i blank s c.loop-slot-test.true in
-    let next = simp length-append at (ap length (joined_next encode_slot slots i s c.loop-slot-test.true is)) in
-    let size = length_encode_slot s in
-    let small = body_small (kind_of_curve s.curve) in
-    (omega (arith, c.loop-slot.invariant.0, c.body_length.ensures), omega (arith, c.loop-slot.invariant.1, c.body_length.ensures))
+lengths [] = refl
+lengths (s ∷ slots) = sum_by-cons record_length s slots ∙ ap₂ (λ (m n : ℕ). m + n) (sym (length_encode_slot s)) (lengths slots) ∙ sym (length-append (encode_slot s) (encode slots))
 
 pub returns : goal.returns
-returns c = let whole = take_all c.loop-slot.slot-index c.args.slots.now (omega arith) in rw whole at c.loop-slot.invariant.0
+returns c = let total : c.sum.result ≡ sum_by record_length c.args.slots.now = search rules in total ∙ lengths c.args.slots.now
