@@ -9,7 +9,7 @@ use Rattle.hex.specs.declared.error.FromHexError.TheVariants.{OutOfMemory}
 use Rattle.script.specs.Answers.{Says}
 use Rattle.script.specs.Bytes.{hex_digit, hex_byte, hex_bytes, bytes_of}
 use Rattle.script.specs.Words.{and_then}
-use Rattle.script.proofs.Chains.{quiet, none_then}
+use Rattle.script.proofs.Texts.{quiet, none_then}
 use Rattle.script.specs.declared.fault.LineFault.{LineFault}
 use Rattle.script.specs.declared.fault.LineFault.TheVariants.{NotACall, NoMemory}
 

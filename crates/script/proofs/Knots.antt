@@ -5,7 +5,7 @@ use Rattle.std.specs.Simd.{first_chunks}
 use Rattle.script.specs.Answers.{texts}
 use Rattle.script.specs.Reading.{knots_of}
 use Rattle.script.specs.Words.{unsigned, signed}
-use Rattle.script.proofs.Chains.{Words, no_word, next_word, quiet}
+use Rattle.script.proofs.Texts.{Words, no_word, next_word, quiet}
 
 pub knots_odd : (n : ℕ) (levels : List ℕ) (steps : List ℤ) (ws : List (List ℕ)) → length ws % 2 ≡ 1 → knots_of n levels steps ws ≡ None
 knots_odd n levels steps [] odd = absurd (omega (arith, odd))

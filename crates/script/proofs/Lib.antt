@@ -1,4 +1,3 @@
-pub mod Chains
 pub mod Cuts
 pub mod Digits
 pub mod Knots
@@ -6,3 +5,4 @@ pub mod Makeable
 pub mod Readings
 pub mod Sides
 pub mod Steps
+pub mod Texts

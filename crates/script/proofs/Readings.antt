@@ -4,7 +4,7 @@ use Rattle.script.specs.Answers.{texts}
 use Rattle.script.specs.Entries.{PlainCall}
 use Rattle.script.specs.Reading.{open_memory, make, line_of, Reading, journal, not_a_call, before, lines_from}
 use Rattle.script.specs.Words.{cut}
-use Rattle.script.proofs.Chains.{Words, no_word, next_word}
+use Rattle.script.proofs.Texts.{Words, no_word, next_word}
 
 pub nonempty : (l : List ℕ) (b : Bool) → b ≡ false → b ≡ eqb (length l) 0 → 0 < length l
 nonempty [] b not is = absurd (let z : ◌≡◌ {A = ℕ} 0 1 = cc in omega arith)

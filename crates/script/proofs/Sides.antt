@@ -5,7 +5,7 @@ use Rattle.std.specs.List.{position_from, position_or_len}
 use Rattle.std.specs.Str.{bytes_eq}
 use Rattle.script.specs.Answers.{texts}
 use Rattle.script.specs.Reading.{sides}
-use Rattle.script.proofs.Chains.{Words}
+use Rattle.script.proofs.Texts.{Words}
 
 abbrev pub is_colon : Bor (List ℕ) → Bool
 is_colon w = bytes_eq w.now (codes ":")

@@ -54,7 +54,7 @@ pub(crate) enum LineFault {
 }
 
 impl LineFault {
-    // The same of a whole text, of which this line has the given number.
+    // The fault of a text whose line with this number has the fault.
     pub(crate) fn at(self, line: usize) -> ScriptFault
         ensures not_a_call { self ≡ LineFault.NotACall → result ≡ ScriptFault.NotACall line }
         ensures no_memory { self ≡ LineFault.NoMemory → result ≡ ScriptFault.NoMemory }

@@ -45,8 +45,8 @@ fn band_of(words: &[&str]) -> Result<Written, LineFault>
 #[derive(Clone, Copy)]
 struct Knots {
     count: usize,
-    levels: [u16; 6],
-    steps: [i32; 6],
+    levels: [u16; KNEE_LIMIT],
+    steps: [i32; KNEE_LIMIT],
 }
 
 // A level and a step for each knee.
@@ -56,8 +56,8 @@ fn knots_of(words: &[&str]) -> Result<Knots, LineFault>
     let (pairs, []) = words.as_chunks::<2>() else {
         return Err(LineFault::NotACall);
     };
-    let mut levels = [0u16; KNEE_LIMIT];
-    let mut steps = [0i32; KNEE_LIMIT];
+    let mut levels = [0; KNEE_LIMIT];
+    let mut steps = [0; KNEE_LIMIT];
     for (i, [level, step]) in pairs.iter().enumerate() {
         let level = number(level)?;
         let step = number(step)?;

@@ -1,11 +1,11 @@
 // Words that are numbers.
 ghost use Rattle.std.specs.Prelude.{◌≡◌, ℕ, List, Option, Result};
+ghost use Rattle.std.specs.Int.{w32, w64};
 ghost use Rattle.std.specs.Result.{result_ok};
 ghost use Rattle.std.specs.declared.num.ParseIntError.{ParseIntError};
 ghost use Rattle.script.specs.Answers.{texts, Says};
-ghost use Rattle.script.specs.Words.{unsigned, signed, each};
-ghost use Rattle.std.proofs.Common.{w32, w64};
 ghost use Rattle.script.specs.Numbers.{unsigned_read, signed_read};
+ghost use Rattle.script.specs.Words.{unsigned, signed, each};
 
 use crate::fault::LineFault;
 use std::alloc::Global;

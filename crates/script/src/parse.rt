@@ -30,10 +30,8 @@ fn read_line(heap: Global, first: bool, line: &str) -> Result<Line, LineFault>
     ensures { Says plain_line result (line_of first (cut 32 line.now)) }
 {
     let words = pieces(heap, line, ' ')?;
-    if first {
-        if let Some(slots) = opening_of(&words) {
-            return Ok(Line::Open(slots));
-        }
+    if first && let Some(slots) = opening_of(&words) {
+        return Ok(Line::Open(slots));
     }
     Ok(Line::Call(entry_of(heap, &words)?))
 }

@@ -1,7 +1,7 @@
 use Rattle.std.proofs.Common.{◌≡◌, ℕ, List, [], ◌∷◌, get_or, None, codes, refl, rules}
 use Rattle.script.specs.Answers.{texts}
 use Rattle.script.specs.Reading.{curve_of}
-use Rattle.script.proofs.Chains.{Words, no_word, differ}
+use Rattle.script.proofs.Texts.{Words, no_word, differ}
 use Rattle.script.proofs.line.curve_of.Goals as goal
 
 abbrev IsNot : Words → List ℕ → Type 0

@@ -1,7 +1,7 @@
 use Rattle.std.proofs.Common.{◌≡◌, ◌%◌, [], length, ◌∙◌, rules}
 use Rattle.std.proofs.Math.ListN.{length-set}
 use Rattle.script.specs.Answers.{texts}
-use Rattle.script.proofs.Chains.{many}
+use Rattle.script.proofs.Texts.{many}
 use Rattle.script.proofs.Knots.{knots_odd, pair, knots_more, knots_past}
 use Rattle.script.proofs.line.knots_of.Goals as goal
 use Rattle.script.proofs.line.knots_of.Goals.{then-i-lt-KNEE_LIMIT, else-i-lt-KNEE_LIMIT}

@@ -3,7 +3,7 @@ use Rattle.script.specs.Answers.{texts}
 use Rattle.script.specs.Numbers.{unsigned_read}
 use Rattle.script.specs.Reading.{opening_of}
 use Rattle.script.specs.Words.{unsigned}
-use Rattle.script.proofs.Chains.{Words, no_word, at_word, differ}
+use Rattle.script.proofs.Texts.{Words, no_word, at_word, differ}
 use Rattle.script.proofs.line.opening_of.Goals as goal
 
 opens : (ws : Words) → length ws ≡ 2 → (get_or ws 0 no_word).now ≡ codes "open" → opening_of (texts ws) ≡ unsigned 64 (get_or ws 1 no_word).now

@@ -4,7 +4,7 @@ use Rattle.script.specs.Answers.{plain_line}
 use Rattle.script.specs.Entries.{entry_call}
 use Rattle.script.specs.Reading.{line_of}
 use Rattle.script.specs.Words.{cut}
-use Rattle.script.proofs.Chains.{no_word}
+use Rattle.script.proofs.Texts.{no_word}
 use Rattle.script.proofs.Readings.{nonempty, line_opens, line_calls}
 use Rattle.script.proofs.parse.read_lines.Goals as goal
 use Rattle.script.proofs.parse.read_lines.Goals.{in-Open, in-Call+in_ok-push-in-Call}
