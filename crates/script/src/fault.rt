@@ -74,14 +74,6 @@ impl From<AllocError> for LineFault {
     }
 }
 
-impl<T: Drop> From<AllocFailed<T>> for LineFault {
-    ghost from_gives = { λ _ r. r ≡ NoMemoryForLine };
-
-    fn from(_fault: AllocFailed<T>) -> LineFault {
-        LineFault::NoMemory
-    }
-}
-
 impl From<FromHexError> for LineFault {
     ghost from_gives = { λ fault r. (fault ≡ OutOfMemory → r ≡ NoMemoryForLine) × (fault ≢ OutOfMemory → r ≡ NotACallForLine) };
 

@@ -60,9 +60,5 @@ pub(crate) fn number<T: Numeral>(word: &str) -> Result<T, LineFault>
 pub(crate) fn numbers<T: Numeral + Drop>(heap: Global, words: &[&str]) -> Result<Vec<T>, LineFault>
     ensures { Says (λ v. v.items) result (each T.written (texts words.now)) }
 {
-    let mut read = Vec::new(heap);
-    for word in words {
-        read.push(number(word)?)?;
-    }
-    Ok(read)
+    words.iter().map(|word| number(word)).try_collect(heap)
 }
