@@ -1,11 +1,8 @@
-pub mod Buffers
-pub mod Chains
 pub mod Cuts
-pub mod Loops
+pub mod Digits
+pub mod Knots
 pub mod Makeable
-pub mod Numbers
-pub mod Openings
-pub mod Pairs
 pub mod Readings
+pub mod Sides
 pub mod Steps
-pub mod Unknown
+pub mod Texts

@@ -1,5 +1,5 @@
 -- What lines say: the call of each, or the first that is not a call.
-use Rattle.std.specs.Prelude.{ℕ, ◌+◌, min, Bool, true, false, cond, List, [], ◌∷◌, ◌++◌, length, ℤ, pos, Some, None, codes, Option, ◌==◌, nat_le, slice_set}
+use Rattle.std.specs.Prelude.{ℕ, ◌+◌, min, Bool, true, false, cond, List, [], ◌∷◌, length, ℤ, pos, Some, None, codes, Option, ◌==◌, nat_le, slice_set}
 use Rattle.std.proofs.Math.ListN as lists
 use Rattle.std.specs.Str.{bytes_eq}
 use Rattle.curve.specs.declared.written.Written.{Written}
@@ -140,13 +140,6 @@ pub data Reading : Type 0 where
 abbrev pub before : PlainCall → Reading → Reading
 before c (journal slots cs) = journal slots (c ∷ cs)
 before c (not_a_call k) = not_a_call k
-
--- what one line more makes of a journal
-abbrev pub with_line : PlainLine → Reading → Reading
-with_line (open_memory n) (journal slots cs) = journal n cs
-with_line (make c) (journal slots cs) = journal slots (cs ++ (c ∷ []))
-with_line (open_memory n) (not_a_call k) = not_a_call k
-with_line (make c) (not_a_call k) = not_a_call k
 
 -- lines from the one with a given number on; blank ones are skipped
 abbrev pub lines_from : Bool → ℕ → ℕ → List (List ℕ) → Reading

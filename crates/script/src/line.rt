@@ -4,10 +4,10 @@ ghost use Rattle.script.specs.Answers.{texts, Says};
 ghost use Rattle.script.specs.Entries.{entry_call};
 ghost use Rattle.script.specs.Reading.{square_of, band_of, knots_of, zeros, knees_of, curve_of, slot_of, replace_of, buffers_of, sides, drop_of, sheet_of, check_of, call_of, opening_of};
 
+use crate::bytes::bytes_of;
 use crate::entry::Entry;
 use crate::fault::LineFault;
-use crate::hex::bytes_of;
-use crate::number::{Numeral, number, numbers};
+use crate::number::{number, numbers};
 use curve::limits::KNEE_LIMIT;
 use curve::written::Written;
 use runs::call::Buffers;
@@ -45,31 +45,29 @@ fn band_of(words: &[&str]) -> Result<Written, LineFault>
 #[derive(Clone, Copy)]
 struct Knots {
     count: usize,
-    levels: [u16; 6],
-    steps: [i32; 6],
+    levels: [u16; KNEE_LIMIT],
+    steps: [i32; KNEE_LIMIT],
 }
 
 // A level and a step for each knee.
 fn knots_of(words: &[&str]) -> Result<Knots, LineFault>
     ensures { Says (λ k. k) result (knots_of 0 (zeros 0) (zeros (pos 0)) (texts words.now)) }
 {
-    let count = words.len() / 2;
-    let mut levels = [0u16; 6];
-    let mut steps = [0i32; 6];
-    for i in 0..count {
-        let level = number(words[2 * i])?;
-        let step = number(words[2 * i + 1])?;
-        if i >= KNEE_LIMIT {
-            continue;
-        }
-        levels[i] = level;
-        steps[i] = step;
-    }
-    if words.len() % 2 > 0 {
+    let (pairs, []) = words.as_chunks::<2>() else {
         return Err(LineFault::NotACall);
+    };
+    let mut levels = [0; KNEE_LIMIT];
+    let mut steps = [0; KNEE_LIMIT];
+    for (i, [level, step]) in pairs.iter().enumerate() {
+        let level = number(level)?;
+        let step = number(step)?;
+        if i < KNEE_LIMIT {
+            levels[i] = level;
+            steps[i] = step;
+        }
     }
     Ok(Knots {
-        count,
+        count: pairs.len(),
         levels,
         steps,
     })
@@ -95,7 +93,7 @@ fn knees_of(words: &[&str]) -> Result<Written, LineFault>
     Ok(Written::Knees {
         ground,
         first,
-        count: count.min(u8::MAX as usize) as u8,
+        count: u8::try_from(count).unwrap_or(u8::MAX),
         levels,
         steps,
     })
@@ -164,12 +162,7 @@ fn buffers_of(words: &[&str]) -> Result<Buffers, LineFault>
 fn colon_of(words: &[&str]) -> Option<usize>
     ensures { MatchOption result (sides (texts words.now) ≡ None) (λ i. (i < length words.now) × (sides (texts words.now) ≡ Some (texts (take i words.now), texts (drop (i + 1) words.now)))) }
 {
-    for i in 0..words.len() {
-        if words[i] == ":" {
-            return Some(i);
-        }
-    }
-    None
+    words.iter().position(|word| *word == ":")
 }
 
 fn check_of(heap: Global, words: &[&str]) -> Result<Entry, LineFault>
@@ -186,10 +179,10 @@ fn check_of(heap: Global, words: &[&str]) -> Result<Entry, LineFault>
 fn drop_of(words: &[&str]) -> Result<Entry, LineFault>
     ensures { Says entry_call result (drop_of (texts words.now)) }
 {
-    if !words.is_empty() {
-        return Err(LineFault::NotACall);
+    match words {
+        [] => Ok(Entry::Drop),
+        _ => Err(LineFault::NotACall),
     }
-    Ok(Entry::Drop)
 }
 
 // With no words, the empty sheet.
@@ -208,7 +201,7 @@ pub(crate) fn opening_of(words: &[&str]) -> Option<usize>
     ensures { result ≡ opening_of (texts words.now) }
 {
     match words {
-        ["open", slots] => usize::of_word(slots),
+        ["open", slots] => slots.parse().ok(),
         _ => None,
     }
 }

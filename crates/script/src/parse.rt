@@ -1,8 +1,7 @@
 // A text as a journal.
-ghost use Rattle.std.specs.Prelude.{◌≡◌, true, IfOk, IfErr, OnOk};
-ghost use Rattle.script.specs.Answers.{texts, Says, plain_line, script_reading, Reads};
-ghost use Rattle.script.specs.declared.fault.ScriptFault.TheVariants.{NoMemory};
-ghost use Rattle.script.specs.Reading.{line_of, with_line, lines_from, reading};
+ghost use Rattle.std.specs.Prelude.{◌≡◌, ◌<◌, true, IfOk};
+ghost use Rattle.script.specs.Answers.{texts, Says, plain_line, Reads};
+ghost use Rattle.script.specs.Reading.{line_of, lines_from, reading};
 ghost use Rattle.script.specs.Words.{cut};
 
 use crate::entry::{Entry, Script};
@@ -18,50 +17,23 @@ enum Line {
     Call(Entry),
 }
 
-// The words of a line, between its spaces.
-fn words_of(heap: Global, line: &str) -> Result<Vec<&str>, AllocError>
-    ensures { IfOk result (λ v. texts v.items ≡ cut 32 line.now) }
+// The pieces of a text between the places of an ASCII character.
+fn pieces(heap: Global, text: &str, at: char) -> Result<Vec<&str>, AllocError>
+    requires { at < 128 }
+    ensures { IfOk result (λ v. texts v.items ≡ cut at text.now) }
 {
-    let words: Vec<&str> = line.split(' ').collect(heap)?;
-    Ok(words)
-}
-
-// The lines of a text.
-fn lines_of(heap: Global, text: &str) -> Result<Vec<&str>, AllocError>
-    ensures { IfOk result (λ v. texts v.items ≡ cut 10 text.now) }
-{
-    let lines: Vec<&str> = text.split('\n').collect(heap)?;
-    Ok(lines)
+    text.split(at).collect(heap)
 }
 
 // Only the first line may open slot memory.
 fn read_line(heap: Global, first: bool, line: &str) -> Result<Line, LineFault>
     ensures { Says plain_line result (line_of first (cut 32 line.now)) }
 {
-    let words = words_of(heap, line)?;
-    if first {
-        if let Some(slots) = opening_of(&words) {
-            return Ok(Line::Open(slots));
-        }
+    let words = pieces(heap, line, ' ')?;
+    if first && let Some(slots) = opening_of(&words) {
+        return Ok(Line::Open(slots));
     }
     Ok(Line::Call(entry_of(heap, &words)?))
-}
-
-// Adds what a line says to a script.
-fn keep(script: &mut Script, line: Line) -> Result<(), ScriptFault>
-    ensures kept { OnOk result (script_reading script.new ≡ with_line (plain_line line) (script_reading script.old)) }
-    ensures fault { IfErr result (λ fault. fault ≡ NoMemory) }
-{
-    match line {
-        Line::Open(slots) => {
-            script.slots = slots;
-            Ok(())
-        }
-        Line::Call(entry) => {
-            script.entries.push(entry)?;
-            Ok(())
-        }
-    }
 }
 
 // Blank lines are skipped.
@@ -73,15 +45,13 @@ fn read_lines(heap: Global, lines: &[&str]) -> Result<Script, ScriptFault>
         entries: Vec::new(heap),
     };
     let mut first = true;
-    for i in 0..lines.len() {
-        let line = lines[i];
+    for (i, line) in lines.iter().enumerate() {
         if line.is_empty() {
             continue;
         }
-        match read_line(heap, first, line) {
-            Ok(read) => keep(&mut script, read)?,
-            Err(LineFault::NotACall) => return Err(ScriptFault::NotACall { line: i + 1 }),
-            Err(LineFault::NoMemory) => return Err(ScriptFault::NoMemory),
+        match read_line(heap, first, line).map_err(|fault| fault.at(i + 1))? {
+            Line::Open(slots) => script.slots = slots,
+            Line::Call(entry) => script.entries.push(entry)?,
         }
         first = false;
     }
@@ -92,8 +62,6 @@ fn read_lines(heap: Global, lines: &[&str]) -> Result<Script, ScriptFault>
 pub fn parse(heap: Global, text: &str) -> Result<Script, ScriptFault>
     ensures { Reads result (reading text.now) }
 {
-    let Ok(lines) = lines_of(heap, text) else {
-        return Err(ScriptFault::NoMemory);
-    };
+    let lines = pieces(heap, text, '\n')?;
     read_lines(heap, &lines)
 }

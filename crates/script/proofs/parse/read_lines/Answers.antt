@@ -1,31 +1,30 @@
-use Rattle.std.proofs.Common.{◌≡◌, ◌<◌, map, length, get_or, vec_items, ◌∙◌, rules}
+use Rattle.std.proofs.Common.{◌≡◌, map, get_or, Some, vec_items, ap, ◌∙◌, rules}
+use Rattle.std.proofs.lemmas.List.{map_push}
 use Rattle.script.specs.Answers.{plain_line}
 use Rattle.script.specs.Entries.{entry_call}
-use Rattle.script.proofs.Chains.{no_word}
-use Rattle.script.proofs.Readings.{nonempty, out_of_memory, line_blank, line_kept, line_fails, lines_done}
+use Rattle.script.specs.Reading.{line_of}
+use Rattle.script.specs.Words.{cut}
+use Rattle.script.proofs.Texts.{no_word}
+use Rattle.script.proofs.Readings.{nonempty, line_opens, line_calls}
 use Rattle.script.proofs.parse.read_lines.Goals as goal
-
-pub loop-i-preserved-then-is_empty : goal.loop-i-preserved-then-is_empty
-loop-i-preserved-then-is_empty c =
-    let none : length (get_or c.args.lines.now c.loop-i.i no_word).now ≡ 0 = search rules in
-    c.loop-i.invariant
-    ∙ line_blank c.args.lines.now c.loop-i.i c.loop-i.first c.loop-i.script.slots (map entry_call (vec_items c.loop-i.script.entries)) c.loop-i-test.true none
-
-pub returns-in-Err-NotACall : goal.returns-in-Err-NotACall
-returns-in-Err-NotACall c =
-    let some : 0 < length (get_or c.args.lines.now c.loop-i.i no_word).now = search rules in
-    c.loop-i.invariant
-    ∙ line_fails c.args.lines.now c.loop-i.i c.loop-i.first c.loop-i.script.slots (map entry_call (vec_items c.loop-i.script.entries)) c.loop-i-test.true some (search rules)
-
-pub returns-in_err-keep-in-Ok : goal.returns-in_err-keep-in-Ok
-returns-in_err-keep-in-Ok c = out_of_memory c.from_residual.result c.in_err-keep-in-Ok.field-0.0 _ c.from_residual.ensures.1 c.in_err-keep-in-Ok.ensures.fault
+use Rattle.script.proofs.parse.read_lines.Goals.{in-Open, in-Call+in_ok-push-in-Call}
 
 pub loop-i-preserved : goal.loop-i-preserved
 loop-i-preserved c =
-    let some = nonempty (get_or c.args.lines.now c.loop-i.i no_word).now c.is_empty.result c.if-is_empty.false c.is_empty.ensures in
-    let script = c.keep.new.script in
-    c.loop-i.invariant
-    ∙ line_kept c.args.lines.now c.loop-i.i c.loop-i.first c.loop-i.script.slots (map entry_call (vec_items c.loop-i.script.entries)) (plain_line c.in-Ok.read) script.slots (map entry_call (vec_items script.entries)) c.loop-i-test.true some c.in-Ok.ensures c.in_ok-keep-in-Ok.ensures.kept
-
-pub returns : goal.returns
-returns c = c.loop-i.invariant ∙ lines_done c.args.lines.now c.loop-i.i c.loop-i.first c.loop-i.script.slots (map entry_call (vec_items c.loop-i.script.entries)) c.loop-i-test.false
+    let lines = c.args.lines.now in
+    let i = c.loop-i.i-counter in
+    let line = (get_or lines i no_word).now in
+    let some = nonempty line c.is_empty.result c.if-is_empty.false c.is_empty.ensures in
+    let before = c.loop-i.script in
+    let said : line_of c.loop-i.first (cut 32 line) ≡ Some (plain_line c.in_ok-slots.field-0) = search rules in
+    elim c.match-branch-2.branch [
+      | in-Open w ↦
+          rw (w.script-is, w.first-is)
+          (c.loop-i.invariant
+          ∙ line_opens lines i c.loop-i.first before.slots (map entry_call (vec_items before.entries)) w.in-Open.slots c.loop-i-test.true some (said ∙ ap (λ l. Some (plain_line l)) w.in-Open.is))
+      | in-Call+in_ok-push-in-Call w ↦
+          rw (w.script-is, w.first-is)
+          (c.loop-i.invariant
+          ∙ line_calls lines i c.loop-i.first before.slots (map entry_call (vec_items before.entries)) (entry_call w.in-Call.entry) (map entry_call (vec_items w.push.new.self)) c.loop-i-test.true some (said ∙ ap (λ l. Some (plain_line l)) w.in-Call.is)
+          (ap (map entry_call) w.in_ok-push-in-Call.ensures.items ∙ map_push entry_call (vec_items before.entries) _))
+    ]

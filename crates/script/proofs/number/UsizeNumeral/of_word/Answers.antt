@@ -1,6 +1,0 @@
-use Rattle.std.proofs.Common.{◌∙◌}
-use Rattle.script.proofs.Numbers.{unsigned_read}
-use Rattle.script.proofs.number.UsizeNumeral.of_word.Goals as goal
-
-pub returns : goal.returns
-returns c = c.ok.ensures.value ∙ unsigned_read 64 c.args.word.now c.parse.result c.parse.ensures.value.0
