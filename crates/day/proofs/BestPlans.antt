@@ -1,5 +1,5 @@
 -- What a check accepts is cheapest, and what is planned is the coldest of the cheapest plans.
-use Rattle.std.proofs.Common.{◌≡◌, ℕ, suc, ◌<◌, true, List, length, take, drop, ℤ, ◌≤ℤ◌, IfOk, Some, None, Ok, Option, Result, refl, arith}
+use Rattle.std.proofs.Common.{◌≡◌, ℕ, suc, ◌<◌, true, List, length, take, drop, ℤ, ◌≤ℤ◌, IfOk, Some, None, Ok, Option, Result, refl}
 use Rattle.std.proofs.lemmas.List.{take_at}
 use Rattle.curve.specs.Limits.{last_step}
 use Rattle.optimum.specs.Coldest.{Coldest, plan}
@@ -18,7 +18,7 @@ use Rattle.slots.proofs.Acceptance.{cheapest_from_accepted}
 -- where a call was answered, there was no refusal
 answered_none : {X : Type 0} (refusal : Option Refusal) (x y : X) → Ok x ≡ told refusal y → refusal ≡ None
 answered_none None x y e = refl
-answered_none (Some refusal) x y e = let z : ◌≡◌ {A = ℕ} 0 1 = cc in absurd (omega arith)
+answered_none (Some refusal) x y e = cc
 
 module _
     {C : Type 0} (ground : C → ℤ) (steps : C → ℕ → ℤ) (rising : (c : C) (v : ℕ) → v < last_step → steps c v ≤ℤ steps c (suc v))

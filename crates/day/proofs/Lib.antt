@@ -1,3 +1,2 @@
 pub mod BestPlans
 pub mod Fronts
-pub mod PlainEdits

@@ -18,9 +18,7 @@ impl<'a, C: Curve + Copy> Day<'a, C> {
     pub(crate) fn listed<'s>(&'s self) -> Slots<'s, C>
         ensures { result.list.now ≡ (plain self.now).slots }
     {
-        Slots {
-            list: &self.slots[0..self.count],
-        }
+        Slots { list: self.slots() }
     }
 
     // The price of a plan.

@@ -7,7 +7,7 @@ ghost use Rattle.day.specs.View.{plain, empty_day, wrote};
 use crate::day::Day;
 use slots::limits::MOST_SLOTS;
 use slots::refusal::Refusal;
-use slots::slot::{Slot, bounds_hold, tolls_hold};
+use slots::slot::Slot;
 
 impl<'a, C: Copy> Day<'a, C> {
     // A day with no slots, over memory that stays as it is.
@@ -43,18 +43,13 @@ impl<'a, C: Copy> Day<'a, C> {
         ensures memory { self.new.slots.now ≡ wrote (add_refusal (plain self.old) slot) self.old.slots.now self.old.count slot }
         ensures lender { self.new.slots.ghost_name ≡ self.old.slots.ghost_name }
     {
-        if !bounds_hold(&slot) {
-            return Err(Refusal::Bounds);
-        }
-        if !tolls_hold(&slot) {
-            return Err(Refusal::Toll);
-        }
+        slot.fits()?;
         let count = self.count;
         if count >= self.room() {
             return Err(Refusal::Full);
         }
         self.slots[count] = slot;
-        self.count = count + 1;
+        self.count += 1;
         Ok(())
     }
 
@@ -68,17 +63,13 @@ impl<'a, C: Copy> Day<'a, C> {
         if place >= self.count {
             return Err(Refusal::NoSlot);
         }
-        if !bounds_hold(&slot) {
-            return Err(Refusal::Bounds);
-        }
-        if !tolls_hold(&slot) {
-            return Err(Refusal::Toll);
-        }
+        slot.fits()?;
         self.slots[place] = slot;
         Ok(())
     }
 
     // Takes off the last slot and leaves its memory.
+    #[tactic(auto, using(crate::proofs::Fronts::proper_fewer))]
     pub fn drop(&mut self) -> Result<(), Refusal>
         ensures answer { result ≡ told (drop_refusal (plain self.old)) tt }
         ensures day { plain self.new ≡ drop_slot (plain self.old) }

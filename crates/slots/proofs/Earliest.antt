@@ -8,11 +8,6 @@ use Rattle.slots.specs.Judging.{earliest}
 abbrev pub after : ℕ → Option ℕ → Option ℕ
 after n place = option_map (λ k. n + k) place
 
--- nothing is passed at the start
-pub after_none : (place : Option ℕ) → place ≡ after 0 place
-after_none None = refl
-after_none (Some k) = ap Some (omega arith)
-
 -- one more is passed
 after_more : (n : ℕ) (place : Option ℕ) → after n (option_map suc place) ≡ after (n + 1) place
 after_more n None = refl
@@ -53,4 +48,4 @@ module _ {X : Type 0} (test : X → Bool) where
     where
       split : (t : Bool) → test x ≡ t → (earliest test xs ≡ None → AllByRecursion (λ x. test x ≡ true) xs) → (test x ≡ true) × AllByRecursion (λ x. test x ≡ true) xs
       split true p rest = (p, rest (none_mapped suc (earliest test xs) (rw p at e)))
-      split false p rest = let found = rw p at e in let z : ◌≡◌ {A = ℕ} 0 1 = cc in absurd (omega arith)
+      split false p rest = let found = rw p at e in absurd (cc)

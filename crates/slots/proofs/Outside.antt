@@ -1,14 +1,10 @@
 -- The earliest slot whose level is out of bounds, and what it means that there is none.
-use Rattle.std.proofs.Common.{◌≡◌, ℕ, ◌+◌, ◌≤◌, true, false, ◌⊎◌, List, [], ◌∷◌, length, ℤ, Some, None, Option, refl, inl, inr, arith}
-use Rattle.std.proofs.lemmas.Bool.Decides.{nat_tests}
-use Rattle.std.specs.List.{zip, AllByRecursion}
-use Rattle.curve.specs.Limits.{top}
-use Rattle.curve.specs.Tests.{and_left, and_right}
+use Rattle.std.proofs.Common.{◌≡◌, ℕ, ◌+◌, true, false, ◌⊎◌, List, [], ◌∷◌, ℤ, Some, None, Option, refl, inl, inr}
+use Rattle.std.specs.List.{zip}
 use Rattle.slots.specs.Judging.{earliest, inside}
 use Rattle.slots.specs.SlotTerms.{slot_terms, day_terms}
-use Rattle.slots.specs.Slots.{proper, all_proper}
 use Rattle.slots.specs.declared.slot.Slot.{Slot}
-use Rattle.slots.proofs.Earliest.{after, earliest_more, earliest_here, earliest_end}
+use Rattle.slots.proofs.Earliest.{after, earliest_more, earliest_here, earliest_end, none_from_all, all_from_none}
 
 module _ {C : Type 0} (ground : C → ℤ) (steps : C → ℕ → ℤ) where
   -- the earliest slot whose level is out of bounds
@@ -33,11 +29,14 @@ module _ {C : Type 0} (ground : C → ℤ) (steps : C → ℕ → ℤ) where
   outside_end n [] levels (inr e) = earliest_end inside _ n refl
   outside_end n (s ∷ ss) levels (inr e) = rw e (earliest_end inside _ n refl)
 
-  -- levels within the bounds of proper slots are not above the warmest
-  pub levels_low : (slots : List (Slot C)) (levels : List ℕ) → all_proper slots ≡ true → length levels ≡ length slots → AllByRecursion (λ p. inside p ≡ true) (zip (day_terms ground steps slots) levels) → AllByRecursion (λ x. x ≤ top) levels
-  levels_low slots [] good same within = tt
-  levels_low [] (x ∷ xs) good same within = absurd (omega arith)
-  levels_low (s ∷ ss) (x ∷ xs) good same within =
-      let here = within.0 in
-      let fine = and_left (proper s) (all_proper ss) good in
-      (grind (arith, nat_tests), levels_low ss xs (and_right (proper s) (all_proper ss) good) (omega arith) within.1)
+  -- where none is found, the first level is within its bounds
+  pub outside_head :
+      (s : Slot C) (ss : List (Slot C)) (x : ℕ) (xs : List ℕ) {slots : List (Slot C)} {levels : List ℕ} → slots ≡ s ∷ ss → levels ≡ x ∷ xs →
+      outside slots levels ≡ None → inside (slot_terms ground steps s, x) ≡ true
+  outside_head s ss x xs p q none = (all_from_none inside _ (rw (p, q) at none)).0
+
+  -- and none is found among the others
+  pub outside_tail :
+      (s : Slot C) (ss : List (Slot C)) (x : ℕ) (xs : List ℕ) {slots : List (Slot C)} {levels : List ℕ} → slots ≡ s ∷ ss → levels ≡ x ∷ xs →
+      outside slots levels ≡ None → outside ss xs ≡ None
+  outside_tail s ss x xs p q none = none_from_all inside _ (all_from_none inside _ (rw (p, q) at none)).1

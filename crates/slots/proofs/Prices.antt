@@ -1,26 +1,10 @@
 -- What a plan costs, slot by slot.
-use Rattle.std.proofs.Common.{◌≡◌, ℕ, ◌-◌, ◌*◌, ◌^◌, ◌<◌, ◌≤◌, ◌⊎◌, List, [], ◌∷◌, ℤ, pos, ◌+ℤ◌, ◌≤ℤ◌, Some, None, Option, refl, inl, inr, arith}
-use Rattle.std.proofs.lemmas.Int.{ints}
+use Rattle.std.proofs.Common.{◌≡◌, ℕ, ◌*◌, ◌^◌, ◌⊎◌, List, [], ◌∷◌, ℤ, pos, ◌+ℤ◌, ◌≤ℤ◌, Some, Option, refl, inl, inr}
 use Rattle.curve.specs.Meaning.{cost}
-use Rattle.optimum.specs.Plans.{Terms, toll, price}
+use Rattle.optimum.specs.Plans.{toll, price}
 use Rattle.slots.specs.Limits.{most_slots}
 use Rattle.slots.specs.SlotTerms.{slot_terms, day_terms}
 use Rattle.slots.specs.declared.slot.Slot.{Slot}
-
--- with no level before there is no toll
-pub toll_none : (t : Terms) (x : ℕ) → toll t None x ≡ pos 0
-unfolding toll
-toll_none t x = refl
-
--- a rise is charged by the up toll
-pub toll_rise : (t : Terms) (before x : ℕ) → before < x → toll t (Some before) x ≡ pos (t.up * (x - before))
-unfolding toll
-toll_rise t before x h = let fall : before - x ≡ 0 = omega arith in rw fall (omega (arith, ints))
-
--- a fall is charged by the down toll
-pub toll_fall : (t : Terms) (before x : ℕ) → x ≤ before → toll t (Some before) x ≡ pos (t.down * (before - x))
-unfolding toll
-toll_fall t before x h = let rise : x - before ≡ 0 = omega arith in rw rise (omega (arith, ints))
 
 -- the total so far leaves room for the prices of n slots more, each of size 2 ^ 49 at most
 abbrev pub Room : ℤ → ℕ → Type 0

@@ -1,69 +1,70 @@
 // Checking a plan, whoever made it, by leans.
-ghost use Rattle.std.specs.Prelude.{◌≡◌, ◌+◌, ◌<◌, length, pos, None, slice_index_or};
-ghost use Rattle.std.specs.List.{AllByRecursion};
+ghost use Rattle.std.specs.Prelude.{◌≡◌, None};
+ghost use Rattle.std.specs.List.{zip};
 ghost use Rattle.optimum.specs.Leans.{stands};
 ghost use Rattle.optimum.specs.Plans.{price};
-ghost use Rattle.slots.specs.Judging.{earliest, check_refusal};
+ghost use Rattle.slots.specs.Judging.{earliest, inside, check_refusal};
 ghost use Rattle.slots.specs.Refusals.{told};
 ghost use Rattle.slots.specs.SlotTerms.{day_terms};
+ghost use Rattle.slots.specs.Stands.{Rule, Tries};
 
 use crate::list::Slots;
-use crate::price::{first_outside, total_price};
 use crate::refusal::Refusal;
-use crate::rules::{AtRest, Bounded, FollowsMove, Rule};
-use crate::slot::Slot;
+use crate::rules::Stand;
 use curve::Curve;
 
-// The lean after a slot's own; after the last it is 0.
-fn lean_after(leans: &[i64], slot: usize) -> i64
-    requires { slot < length leans.now }
-    ensures { result ≡ slice_index_or leans.now (slot + 1) (pos 0) }
-{
-    if slot + 1 < leans.len() {
-        leans[slot + 1]
-    } else {
-        0
-    }
-}
-
-// The earliest slot that breaks a rule.
-fn first_break<R: Rule, C: Curve>(slots: &[Slot<C>], levels: &[u16], leans: &[i64]) -> Option<usize>
-    requires one_each { (length levels.now ≡ length slots.now) × (length leans.now ≡ length slots.now) }
-    requires given { AllByRecursion R.Rule.given (stands None (day_terms C.Curve.ground C.Curve.steps slots.now) levels.now leans.now) }
-    ensures { result ≡ earliest R.Rule.test (stands None (day_terms C.Curve.ground C.Curve.steps slots.now) levels.now leans.now) }
-{
-    let mut before = None;
-    for i in 0..slots.len() {
-        let level = levels[i];
-        if !R::holds(&slots[i], before, level, leans[i], lean_after(leans, i)) {
-            return Some(i);
-        }
-        before = Some(level);
-    }
-    None
-}
-
 impl<'a, C: Curve> Slots<'a, C> {
+    // The earliest slot that breaks a rule, in a plan within the bounds.
+    fn first_break<F: Fn(&Stand<'_, C>) -> bool>(
+        &self,
+        levels: &[u16],
+        leans: &[i64],
+        keeps: F,
+    ) -> Option<usize>
+        requires within { earliest inside (zip (day_terms C.Curve.ground C.Curve.steps self.now.list.now) levels.now) ≡ None }
+        requires callable { F.IsAlwaysCallable keeps }
+        ensures { (rule : Rule) → Tries C.Curve.ground C.Curve.steps F.Fn keeps rule → result ≡ earliest rule (stands None (day_terms C.Curve.ground C.Curve.steps self.now.list.now) levels.now leans.now) }
+    {
+        let mut before = None;
+        for (i, ((slot, level), lean)) in self
+            .list
+            .iter()
+            .zip(levels.iter())
+            .zip(leans.iter())
+            .enumerate()
+        {
+            let stand = Stand {
+                slot,
+                before,
+                level: *level,
+                lean: *lean,
+                next: leans.get(i + 1).copied().unwrap_or(0),
+            };
+            if !keeps(&stand) {
+                return Some(i);
+            }
+            before = Some(*level);
+        }
+        None
+    }
+
     // The price of a plan that obeys the rules with some leans, or the first rule that is broken.
     pub fn check(&self, levels: &[u16], leans: &[i64]) -> Result<i64, Refusal>
         ensures { result ≡ told (check_refusal (day_terms C.Curve.ground C.Curve.steps self.now.list.now) levels.now leans.now) (price None (day_terms C.Curve.ground C.Curve.steps self.now.list.now) levels.now) }
     {
-        let slots = self.list;
-        if levels.len() != slots.len() || leans.len() != slots.len() {
+        if leans.len() != self.list.len() {
             return Err(Refusal::Count);
         }
-        if let Some(slot) = first_outside(slots, levels) {
-            return Err(Refusal::Outside(slot));
-        }
-        if let Some(slot) = first_break::<Bounded, C>(slots, levels, leans) {
+        let price = self.price(levels)?;
+        if let Some(slot) = self.first_break(levels, leans, |stand| stand.bounded()) {
             return Err(Refusal::Lean(slot));
         }
-        if let Some(slot) = first_break::<FollowsMove, C>(slots, levels, leans) {
+        if let Some(slot) = self.first_break(levels, leans, |stand| stand.follows_move()) {
             return Err(Refusal::Move(slot));
         }
-        if let Some(slot) = first_break::<AtRest, C>(slots, levels, leans) {
+        if let Some(slot) = self.first_break(levels, leans, |stand| stand.at_rest()) {
             return Err(Refusal::Rest(slot));
         }
-        Ok(total_price(slots, levels))
+        Ok(price)
     }
 }

@@ -1,107 +1,78 @@
 // The three rules of leans, each as a test of one slot.
-ghost use Rattle.std.specs.Prelude.{◌≡◌, ◌-◌, ◌≤◌, Bool, true, ◌||◌, int_le, nat_le};
+ghost use Rattle.std.specs.Prelude.{◌≡◌, ◌-◌, ◌≤◌, ◌||◌, ◌-ℤ◌, int_le, nat_le};
 ghost use Rattle.curve.specs.Limits.{top};
-ghost use Rattle.optimum.specs.Leans.{Stand, bounded, follows_move, at_rest};
-ghost use Rattle.slots.specs.Stands.{slot_stand, small};
+ghost use Rattle.optimum.specs.Leans.{bounded, follows_move, at_rest};
 
 use crate::slot::Slot;
 use curve::Curve;
 
-// A rule: which test it makes of a slot, and what has to be known before it can be made.
-pub(crate) trait Rule {
-    ghost test: { Stand → Bool };
-
-    ghost given: { Stand → Type 0 };
-
-    fn holds<C: Curve>(
-        slot: &Slot<C>,
-        before: Option<u16>,
-        level: u16,
-        lean: i64,
-        next: i64,
-    ) -> bool
-        requires { given (slot_stand C.Curve.ground C.Curve.steps slot.now before level lean next) }
-        ensures { result ≡ test (slot_stand C.Curve.ground C.Curve.steps slot.now before level lean next) };
+// What the rules look at in one slot: the level before it, if there is one, its level, its lean and the lean after it.
+#[derive(Drop)]
+pub(crate) struct Stand<'s, C> {
+    pub(crate) slot: &'s Slot<C>,
+    pub(crate) before: Option<u16>,
+    pub(crate) level: u16,
+    pub(crate) lean: i64,
+    pub(crate) next: i64,
+    ghost level_held: { level ≤ top },
+    ghost bounds_held: { slot.now.high ≤ top },
 }
 
-// The first lean is 0, and every later one lies from minus its down toll to its up toll.
-pub(crate) struct Bounded;
+impl<'s, C: Curve> Stand<'s, C> {
+    ghost use Rattle.slots.specs.Stands.{slot_stand};
 
-impl Rule for Bounded {
-    ghost test = { bounded };
-
-    ghost given = { λ _. Unit {0} };
-
-    fn holds<C: Curve>(
-        slot: &Slot<C>,
-        before: Option<u16>,
-        _level: u16,
-        lean: i64,
-        _next: i64,
-    ) -> bool {
-        match before {
-            None => lean == 0,
-            Some(_) => lean >= -(slot.down as i64) && lean <= slot.up as i64,
+    // The first lean is 0, and every later one lies from minus its down toll to its up toll.
+    #[tactic(auto, unfolding(optimum::specs::Leans::bounded))]
+    pub(crate) fn bounded(&self) -> bool
+        ensures { result ≡ bounded (slot_stand C.Curve.ground C.Curve.steps self.now) }
+    {
+        match self.before {
+            None => self.lean == 0,
+            Some(_) => {
+                self.lean >= -i64::from(self.slot.down) && self.lean <= i64::from(self.slot.up)
+            }
         }
     }
-}
 
-// Where the level rises, the lean is the up toll; where it falls, minus the down toll.
-pub(crate) struct FollowsMove;
-
-impl Rule for FollowsMove {
-    ghost test = { follows_move };
-
-    ghost given = { λ _. Unit {0} };
-
-    fn holds<C: Curve>(
-        slot: &Slot<C>,
-        before: Option<u16>,
-        level: u16,
-        lean: i64,
-        _next: i64,
-    ) -> bool {
-        match before {
-            None => true,
-            Some(before) if before < level => lean == slot.up as i64,
-            Some(before) if level < before => lean == -(slot.down as i64),
-            Some(_) => true,
+    // Where the level rises, the lean is the up toll; where it falls, minus the down toll.
+    #[tactic(auto, unfolding(optimum::specs::Leans::follows_move))]
+    pub(crate) fn follows_move(&self) -> bool
+        ensures { result ≡ follows_move (slot_stand C.Curve.ground C.Curve.steps self.now) }
+    {
+        match self.before {
+            Some(before) if before < self.level => self.lean == i64::from(self.slot.up),
+            Some(before) if before > self.level => self.lean == -i64::from(self.slot.down),
+            _ => true,
         }
     }
-}
 
-// No step up costs less than it gains.
-fn rests_upward<C: Curve>(slot: &Slot<C>, level: u16, gain: i64) -> bool
-    requires { slot.now.high ≤ top }
-    ensures { result ≡ (nat_le slot.now.high level || int_le gain (C.Curve.steps slot.now.curve level)) }
-{
-    level >= slot.high || slot.curve.step(level) >= gain
-}
+    // What the next lean gains over the slot's own.
+    fn gain(&self) -> i128
+        ensures { result ≡ self.now.next -ℤ self.now.lean }
+    {
+        i128::from(self.next) - i128::from(self.lean)
+    }
 
-// No step down saves more than it loses.
-fn rests_downward<C: Curve>(slot: &Slot<C>, level: u16, gain: i64) -> bool
-    requires { level ≤ top }
-    ensures { result ≡ (nat_le level slot.now.low || int_le (C.Curve.steps slot.now.curve (level - 1)) gain) }
-{
-    level <= slot.low || slot.curve.step(level - 1) <= gain
-}
+    // No step up costs less than the gain.
+    fn rests_upward(&self) -> bool
+        ensures { result ≡ (nat_le self.now.slot.now.high self.now.level || int_le (self.now.next -ℤ self.now.lean) (C.Curve.steps self.now.slot.now.curve self.now.level)) }
+    {
+        self.level >= self.slot.high || i128::from(self.slot.curve.step(self.level)) >= self.gain()
+    }
 
-// No step up costs less than the next lean gains over its own, and no step down saves more.
-pub(crate) struct AtRest;
+    // No step down saves more than the gain.
+    fn rests_downward(&self) -> bool
+        ensures { result ≡ (nat_le self.now.level self.now.slot.now.low || int_le (C.Curve.steps self.now.slot.now.curve (self.now.level - 1)) (self.now.next -ℤ self.now.lean)) }
+    {
+        self.level <= self.slot.low
+            || i128::from(self.slot.curve.step(self.level - 1)) <= self.gain()
+    }
 
-impl Rule for AtRest {
-    ghost test = { at_rest };
-
-    ghost given = { λ s. small s ≡ true };
-
-    fn holds<C: Curve>(
-        slot: &Slot<C>,
-        _before: Option<u16>,
-        level: u16,
-        lean: i64,
-        next: i64,
-    ) -> bool {
-        let gain = next - lean;
-        rests_upward(slot, level, gain) && rests_downward(slot, level, gain)
+    // No step up costs less than the next lean gains over its own, and no step down saves more.
+    #[tactic(auto, unfolding(optimum::specs::Leans::at_rest))]
+    pub(crate) fn at_rest(&self) -> bool
+        ensures { result ≡ at_rest (slot_stand C.Curve.ground C.Curve.steps self.now) }
+    {
+        self.rests_upward() && self.rests_downward()
     }
 }

@@ -1,5 +1,5 @@
 // A slot of a day: its curve, its bounds, and its tolls for each level up and down.
-ghost use Rattle.std.specs.Prelude.{◌≡◌};
+ghost use Rattle.std.specs.Prelude.{◌≡◌, ◌&&◌, nat_le};
 ghost use Rattle.slots.specs.Refusals.{slot_refusal, told};
 ghost use Rattle.slots.specs.Slots.{bounds_hold, tolls_hold};
 
@@ -7,7 +7,7 @@ use crate::limits::TOLL_LIMIT;
 use crate::refusal::Refusal;
 use curve::limits::TOP;
 
-#[derive(Clone, Copy)]
+#[derive(Clone, Copy, Default)]
 pub struct Slot<C> {
     pub curve: C,
     pub low: u16,
@@ -42,5 +42,12 @@ impl<C> Slot<C> {
             return Err(Refusal::Toll);
         }
         Ok(())
+    }
+
+    // Whether a level lies within the bounds.
+    pub(crate) fn allows(&self, level: u16) -> bool
+        ensures { result ≡ (nat_le self.now.low level && nat_le level self.now.high) }
+    {
+        self.low <= level && level <= self.high
     }
 }

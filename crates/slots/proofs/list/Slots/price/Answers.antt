@@ -1,37 +1,46 @@
-use Rattle.std.proofs.Common.{◌≡◌, ℕ, List, length, ℤ, Some, None, Ok, Option, ap, ◌∙◌, arith, w64}
+use Rattle.std.proofs.Common.{None, refl, ◌∙◌, arith, rules}
+use Rattle.std.proofs.lemmas.Int.{ints}
 use Rattle.std.proofs.lemmas.List.{length-map}
-use Rattle.std.proofs.lemmas.Int.{to_z-of_z}
+use Rattle.std.proofs.lemmas.Slice.Zip.{either_empty_from_Zip}
 use Rattle.std.proofs.lemmas.Bool.Decides.{nat_tests}
-use Rattle.slots.specs.Judging.{price_refusal}
-use Rattle.slots.specs.SlotTerms.{slot_terms, day_terms}
-use Rattle.slots.specs.declared.refusal.Refusal.{Refusal}
-use Rattle.slots.specs.declared.refusal.Refusal.TheVariants.{Count, Outside}
-use Rattle.slots.specs.declared.slot.Slot.{Slot}
-use Rattle.slots.proofs.Outside.{outside}
+use Rattle.std.specs.Iterator.Adapters.{enumerate_source, enumerate_count, zip_first, zip_second}
+use Rattle.std.specs.Slice.Iter.{iter_rest}
+use Rattle.curve.specs.Tests.{and_left, and_right}
+use Rattle.slots.specs.Slots.{proper, all_proper}
+use Rattle.slots.proofs.Outside.{outside_more, outside_here, outside_end}
+use Rattle.slots.proofs.Prices.{price_more, price_end}
 use Rattle.slots.proofs.list.Slots.price.Goals as goal
 
-module _ {C : Type 0} (ground : C → ℤ) (steps : C → ℕ → ℤ) (slots : List (Slot C)) (levels : List ℕ) where
-  -- the refusal of a price, if there is one
-  abbrev verdict : Option Refusal
-  verdict = price_refusal (day_terms ground steps slots) levels
+pub returns-then-not-allows : goal.returns-then-not-allows
+returns-then-not-allows g c =
+    let turn = c.in-Some.ensures.steps in
+    let left = enumerate_source c.next.new.self in
+    let here = outside_here g.C.Curve.ground g.C.Curve.steps (enumerate_count c.loop-i.i-iterator) c.in-Some.i c.in-Some.slot.now (iter_rest (zip_first left)) c.in-Some.level.now (iter_rest (zip_second left)) turn.0.0 turn.0.1 (cc) turn.1 in
+    let found = c.loop-i.invariant.2 ∙ here in
+    grind (arith, nat_tests, length-map, found)
 
-  -- another count of levels than of slots is refused
-  count_refused : (length levels ≡ length slots → ⊥) → verdict ≡ Some Count
-  count_refused other = let many = length-map slots (slot_terms ground steps) in grind (arith, nat_tests)
+pub slot_price-total-requires : goal.slot_price-total-requires
+slot_price-total-requires g c =
+    let turn = c.in-Some.ensures.steps in
+    let rest = iter_rest (zip_first (enumerate_source c.next.new.self)) in
+    let fine = and_left (proper c.in-Some.slot.now) (all_proper rest) (rw turn.0.0 at c.loop-i.invariant.5) in
+    grind (arith, nat_tests)
 
-  -- a level out of bounds is refused
-  outside_refused : (i : ℕ) → length levels ≡ length slots → Some i ≡ outside ground steps slots levels → verdict ≡ Some (Outside i)
-  outside_refused i same found = let many = length-map slots (slot_terms ground steps) in grind (arith, nat_tests)
-
-  -- nothing else is refused
-  none_refused : length levels ≡ length slots → None ≡ outside ground steps slots levels → verdict ≡ None
-  none_refused same none = let many = length-map slots (slot_terms ground steps) in grind (arith, nat_tests)
-
-pub returns-then-levels-self : goal.returns-then-levels-self
-returns-then-levels-self g c = rw (count_refused g.C.Curve.ground g.C.Curve.steps c.args.self.now.list.now c.args.levels.now c.if-levels-self.true)
-
-pub returns-in-Some : goal.returns-in-Some
-returns-in-Some g c = rw (outside_refused g.C.Curve.ground g.C.Curve.steps c.args.self.now.list.now c.args.levels.now c.in-Some.slot c.if-levels-self.false c.in-Some.ensures)
+pub loop-i-preserved : goal.loop-i-preserved
+loop-i-preserved g c =
+    let turn = c.in-Some.ensures.steps in
+    let left = enumerate_source c.next.new.self in
+    let slots = iter_rest (zip_first left) in
+    let levels = iter_rest (zip_second left) in
+    let passed = outside_more g.C.Curve.ground g.C.Curve.steps (enumerate_count c.loop-i.i-iterator) (enumerate_count c.next.new.self) c.in-Some.slot.now slots c.in-Some.level.now levels turn.0.0 turn.0.1 (cc) turn.2 in
+    let more = price_more g.C.Curve.ground g.C.Curve.steps c.loop-i.before c.in-Some.slot.now slots c.in-Some.level.now levels turn.0.0 turn.0.1 in
+    let room = rw turn.0.0 at c.loop-i.invariant.4 in
+    (search rules, search rules, c.loop-i.invariant.2 ∙ passed, omega (arith, ints), (omega (arith, ints), omega (arith, ints)), and_right (proper c.in-Some.slot.now) (all_proper slots) (rw turn.0.0 at c.loop-i.invariant.5))
 
 pub returns : goal.returns
-returns g c = rw (none_refused g.C.Curve.ground g.C.Curve.steps c.args.self.now.list.now c.args.levels.now c.if-levels-self.false c.in_default.ensures) (ap Ok (to_z-of_z w64 c.total_price.result (record { sfits = c.total_price.type_inv }) ∙ c.total_price.ensures))
+returns g c =
+    let left = enumerate_source c.loop-i.i-iterator in
+    let over = either_empty_from_Zip left (enumerate_source c.next.new.self) None refl c.in-None.ensures.steps.0 in
+    let none = c.loop-i.invariant.2 ∙ outside_end g.C.Curve.ground g.C.Curve.steps (enumerate_count c.loop-i.i-iterator) (iter_rest (zip_first left)) (iter_rest (zip_second left)) over in
+    let end = price_end g.C.Curve.ground g.C.Curve.steps c.loop-i.before (iter_rest (zip_first left)) (iter_rest (zip_second left)) over in
+    grind (arith, ints, nat_tests, length-map, none)
