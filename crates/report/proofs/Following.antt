@@ -1,5 +1,5 @@
 -- The lines of a plan, one level at a time.
-use Rattle.std.proofs.Common.{◌≡◌, ℕ, ◌+◌, ◌<◌, ◌≤◌, true, List, [], ◌∷◌, ◌++◌, length, get_or, drop, ℤ, is_err, IfOk, Some, None, Ok, Err, Option, Result, sym, refl, ap, ◌∙◌, append_assoc, arith}
+use Rattle.std.proofs.Common.{◌≡◌, ℕ, ◌+◌, ◌<◌, ◌≤◌, List, [], ◌∷◌, ◌++◌, length, get_or, drop, ℤ, Some, None, Option, sym, refl, ap, ◌∙◌, append_assoc, arith}
 use Rattle.std.proofs.lemmas.List.{append-nil, drop_more, drop_all}
 use Rattle.std.specs.List.{AllByRecursion}
 use Rattle.curve.specs.Limits.{top}
@@ -16,14 +16,14 @@ handed_out (y ∷ left) x e within = let same : x ≡ y = cc in (rw same within.
 
 -- one level more has one line more
 pub lines_more :
-    {C : Type 0} (ground : C → ℤ) (steps : C → ℕ → ℤ) (slots : List (Slot C)) (i : ℕ) (s : Slot C) (before : Option ℕ) (left rest text grown line all : List ℕ) (x : ℕ) →
-    i < length slots → s ≡ get_or slots i s → Some x ≡ first_of left → rest ≡ rest_of left → line ≡ slot_line i (slot_terms ground steps s) before x → grown ≡ text ++ line →
+    {C : Type 0} (ground : C → ℤ) (steps : C → ℕ → ℤ) (slots : List (Slot C)) (i : ℕ) (s : Slot C) (before : Option ℕ) (left rest text grown all : List ℕ) (x : ℕ) →
+    i < length slots → s ≡ get_or slots i s → Some x ≡ first_of left → rest ≡ rest_of left → grown ≡ text ++ slot_line i (slot_terms ground steps s) before x →
     text ++ slot_lines i (day_terms ground steps (drop i slots)) before left ≡ all → grown ++ slot_lines (i + 1) (day_terms ground steps (drop (i + 1) slots)) (Some x) rest ≡ all
-lines_more {C} ground steps slots i s before [] rest text grown line all x within is e others said more so_far = let z : ◌≡◌ {A = ℕ} 0 1 = cc in absurd (omega arith)
-lines_more {C} ground steps slots i s before (y ∷ left) rest text grown line all x within is e others said more so_far =
+lines_more {C} ground steps slots i s before [] rest text grown all x within is e others more so_far = let z : ◌≡◌ {A = ℕ} 0 1 = cc in absurd (omega arith)
+lines_more {C} ground steps slots i s before (y ∷ left) rest text grown all x within is e others more so_far =
     let same : x ≡ y = cc in
     let here : drop i slots ≡ s ∷ drop (i + 1) slots = drop_more slots i s within ∙ ap (λ (t : Slot C). t ∷ drop (i + 1) slots) (sym is) in
-    rw (more, said, others, same, append_assoc) (rw here at so_far)
+    rw (more, others, same, append_assoc) (rw here at so_far)
 
 -- with no level left there is no line left
 lines_none : (i : ℕ) (ts : List Terms) (before : Option ℕ) → slot_lines i ts before [] ≡ []
@@ -37,8 +37,3 @@ lines_end i ts before (y ∷ left) text all e so_far = let z : ◌≡◌ {A = �
 -- nor with no slot left
 pub lines_done : {C : Type 0} (ground : C → ℤ) (steps : C → ℕ → ℤ) (slots : List (Slot C)) (i : ℕ) (before : Option ℕ) (left text all : List ℕ) → length slots ≤ i → text ++ slot_lines i (day_terms ground steps (drop i slots)) before left ≡ all → text ≡ all
 lines_done ground steps slots i before left text all past so_far = rw (drop_all i slots past, append-nil) at so_far
-
--- where memory gave out, nothing is made
-pub unmade : {X E : Type 0} (r : Result X E) (P : X → Type 0) → is_err r ≡ true → IfOk r P
-unmade (Ok x) P e = let z : ◌≡◌ {A = ℕ} 0 1 = cc in absurd (omega arith)
-unmade (Err fault) P e = tt

@@ -1,5 +1,5 @@
 -- What is said of a sheet.
-use Rattle.std.specs.Prelude.{ℕ, ◌+◌, Bool, true, false, List, [], ◌∷◌, ◌++◌, length, Some, None, Ok, Err, codes, decimal, Option, Result}
+use Rattle.std.specs.Prelude.{ℕ, ◌+◌, Bool, true, false, List, [], ◌∷◌, ◌++◌, length, Some, None, Ok, Err, codes, decimal, string_bytes, Option, Result, String}
 use Rattle.std.specs.Fmt.{signed_decimal}
 use Rattle.curve.specs.Meaning.{cost}
 use Rattle.curve.specs.WrittenCurves.{written_ground, written_steps}
@@ -34,6 +34,11 @@ plan_text ts = head_line ts ++ slot_lines 0 ts None (plan None ts)
 abbrev pub sheet_text : Result (List (Slot Written)) SheetFault → List ℕ
 sheet_text (Ok slots) = plan_text (day_terms written_ground written_steps slots)
 sheet_text (Err fault) = fault_text fault ++ codes "\n"
+
+-- the bytes of what is said, of a plan or of a refusal
+abbrev pub said : {Z : Type 0} → Result (String Z) (String Z) → List ℕ
+said (Ok text) = string_bytes text
+said (Err text) = string_bytes text
 
 -- whether it was refused
 abbrev pub is_refused : Result (List (Slot Written)) SheetFault → Bool

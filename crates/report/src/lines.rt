@@ -1,5 +1,5 @@
 // The lines of a plan that is followed.
-ghost use Rattle.std.specs.Prelude.{◌≡◌, ◌≤◌, ◌++◌, IfOk, None, string_bytes, OnOk};
+ghost use Rattle.std.specs.Prelude.{◌≡◌, ◌≤◌, ◌++◌, None, string_bytes, OnOk};
 ghost use Rattle.std.specs.List.{AllByRecursion};
 ghost use Rattle.curve.specs.Limits.{top};
 ghost use Rattle.slots.specs.SlotTerms.{slot_terms, day_terms};
@@ -10,27 +10,27 @@ use curve::cost::cost_at;
 use day::check::CheckedPlan;
 use slots::price::toll_into;
 use slots::slot::Slot;
-use std::alloc::{AllocError, Global};
+use std::alloc::AllocError;
+use std::fmt::Write;
 
-// The line of a slot: its number, its level, its curve's cost there, and the toll paid for coming there.
-fn line<C: Curve>(
-    heap: Global,
+// Puts the line of a slot after a text: its number, its level, its curve's cost there, and the toll paid for coming there.
+fn put_line<C: Curve>(
+    text: &mut String,
     number: usize,
     slot: &Slot<C>,
     before: Option<u16>,
     level: u16,
-) -> Result<String, AllocError>
+) -> Result<(), AllocError>
     requires { level ≤ top }
-    ensures { IfOk result (λ s. string_bytes s ≡ slot_line number (slot_terms C.Curve.ground C.Curve.steps slot.now) before level) }
+    ensures { OnOk result (string_bytes text.new ≡ string_bytes text.old ++ slot_line number (slot_terms C.Curve.ground C.Curve.steps slot.now) before level) }
 {
-    let cost = cost_at(&slot.curve, level).unwrap_or(0);
+    let cost = cost_at(&slot.curve, level).unwrap();
     let toll = toll_into(slot, before, level);
-    format!(in heap; "{number} {level} {cost} {toll}\n")
+    writeln!(text, "{number} {level} {cost} {toll}")
 }
 
 // Follows a checked plan, and puts a line for each slot after a text.
 pub(crate) fn put_lines<C: Curve>(
-    heap: Global,
     text: &mut String,
     slots: &[Slot<C>],
     plan: CheckedPlan<'_>,
@@ -40,12 +40,11 @@ pub(crate) fn put_lines<C: Curve>(
 {
     let mut following = plan.follow();
     let mut before = None;
-    for i in 0..slots.len() {
+    for (i, slot) in slots.iter().enumerate() {
         let Some(level) = following.next_level() else {
             break;
         };
-        let line = line(heap, i, &slots[i], before, level)?;
-        text.push_str(line.as_str())?;
+        put_line(text, i, slot, before, level)?;
         before = Some(level);
     }
     Ok(())

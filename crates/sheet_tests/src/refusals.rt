@@ -27,7 +27,7 @@ fn refused_behind(
     let place = sheet.len();
     sheet.extend_from_slice(record)?;
     let text = format!(in heap; "refused {number} slot {slot} byte {place}\n")?;
-    says(rt, heap, &sheet, text.as_str(), true)
+    says(rt, heap, &sheet, Err(text.as_str()))
 }
 
 // Holds a record to be refused behind none, one and two good ones.
@@ -175,7 +175,7 @@ fn longest_told(rt: &impl Abort, heap: Global) -> Result<(), Fail> {
 fn longer_refused(rt: &impl Abort, heap: Global, more: &[u8]) -> Result<(), Fail> {
     let mut sheet = longest(heap)?;
     sheet.extend_from_slice(more)?;
-    says(rt, heap, &sheet, "refused 12 slot 192 byte 11904\n", true)
+    says(rt, heap, &sheet, Err("refused 12 slot 192 byte 11904\n"))
 }
 
 #[test]

@@ -10,28 +10,30 @@ const SQUARES: &[u8] = b"\
     \x01\x00\x00\x03\xff\x00\x00\x00\x04\x00\x00\x00\x04\x00\x00\x00\x01\x00\x14\
     \x01\x00\x00\x03\xff\x00\x00\x00\x04\x00\x00\x00\x04\x00\x00\x00\x01\x00\x0a";
 
+// Holds what is said of a sheet to be the text of a plan, or of a refusal.
 pub(crate) fn says(
     rt: &impl Abort,
     heap: Global,
     sheet: &[u8],
-    text: &str,
-    refused: bool,
+    expected: Result<&str, &str>,
 ) -> Result<(), Fail> {
     let said = report_on(heap, sheet)?;
-    assert_eq!(rt; said.text.as_str(), text);
-    assert_eq!(rt; said.refused, refused);
+    match &said {
+        Ok(plan) => assert_eq!(rt; Ok(plan.as_str()), expected),
+        Err(refusal) => assert_eq!(rt; Err(refusal.as_str()), expected),
+    }
     Ok(())
 }
 
 pub(crate) fn is_refused(heap: Global, sheet: &[u8]) -> Result<bool, AllocError> {
     let said = report_on(heap, sheet)?;
-    Ok(said.refused)
+    Ok(said.is_err())
 }
 
 #[test]
 fn a_plan_is_told_slot_by_slot(rt: HostRuntime) -> Result<(), Fail> {
     let heap = rt.alloc();
-    says(&rt, heap, &[], "slots 0 cost 0\n", false)?;
+    says(&rt, heap, &[], Ok("slots 0 cost 0\n"))?;
     let text = "slots 3 cost 56\n0 12 4 0\n1 16 16 16\n2 12 4 16\n";
-    says(&rt, heap, SQUARES, text, false)
+    says(&rt, heap, SQUARES, Ok(text))
 }

@@ -12,11 +12,10 @@ fn main(rt: HostRuntime) -> anyhow::Result<ExitCode> {
     let heap = rt.alloc();
     let mut sheet = Vec::new(heap);
     rt.stdin().take(MOST_BYTES).read_to_end(&mut sheet)?;
-    let said = report_on(heap, &sheet)?;
-    rt.print(said.text)?;
-    Ok(if said.refused {
-        ExitCode::FAILURE
-    } else {
-        ExitCode::SUCCESS
-    })
+    let (text, status) = match report_on(heap, &sheet)? {
+        Ok(plan) => (plan, ExitCode::SUCCESS),
+        Err(refusal) => (refusal, ExitCode::FAILURE),
+    };
+    rt.print(text)?;
+    Ok(status)
 }

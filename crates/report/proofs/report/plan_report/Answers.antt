@@ -8,22 +8,23 @@ use Rattle.slots.specs.SlotTerms.{slot_terms, day_terms}
 use Rattle.report.proofs.PlanTexts.{within_top, text_made}
 use Rattle.report.proofs.report.plan_report.Goals as goal
 
-pub returns-in_default : goal.returns-in_default
-returns-in_default g c = let refused = c.in_default.ensures in let few = c.args.day.now.few in absurd (grind (arith, nat_tests))
+pub unwrap-plan-requires : goal.unwrap-plan-requires
+unwrap-plan-requires g c = let made = c.checked_plan.ensures in let few = c.args.day.now.few in grind (arith, nat_tests)
 
 pub put_lines-requires : goal.put_lines-requires
 put_lines-requires g c =
     let day = c.args.day.now in
     let slots = take day.count day.slots.now in
     let within = plan_within (day_terms g.C.Curve.ground g.C.Curve.steps slots) (all_convex g.C.Curve.ground g.C.Curve.steps g.met.C.Curve.rising slots day.proper) (all_open g.C.Curve.ground g.C.Curve.steps slots day.proper) in
-    rw c.in-Ok.ensures.1.0 (within_top g.C.Curve.ground g.C.Curve.steps slots _ day.proper within)
+    let checked = (rw c.unwrap-plan.ensures at c.checked_plan.ensures).1 in
+    rw checked.0 (within_top g.C.Curve.ground g.C.Curve.steps slots _ day.proper within)
 
 pub returns : goal.returns
 returns g c =
     let day = c.args.day.now in
     let slots = take day.count day.slots.now in
     let ts = day_terms g.C.Curve.ground g.C.Curve.steps slots in
-    let checked = c.in-Ok.ensures.1 in
+    let checked = (rw c.unwrap-plan.ensures at c.checked_plan.ensures).1 in
     let many = ap length c.slots.ensures ∙ sym (length-map slots (slot_terms g.C.Curve.ground g.C.Curve.steps)) in
     let fits = to_z-of_z w64 c.cost-cost.result (search rules) in
     let said = simp fits at c.in_ok-text.ensures.ok in
