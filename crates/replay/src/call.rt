@@ -1,4 +1,5 @@
 // The calls that a run is made of, and what each is answered.
+use sheet::fault::SheetFault;
 use slots::refusal::Refusal;
 use slots::slot::Slot;
 
@@ -16,6 +17,7 @@ pub enum Call<'c, C> {
     Add(Slot<C>),
     Replace(usize, Slot<C>),
     Drop,
+    Sheet(&'c [u8]),
     Price(&'c [u16]),
     Plan(Buffers),
     Check(&'c [u16], &'c [i64]),
@@ -31,6 +33,7 @@ pub enum Answer {
         leans: Vec<i64>,
     },
     Refused(Refusal),
+    Unread(SheetFault),
 }
 
 // One call's answer, and the day's slots after it.

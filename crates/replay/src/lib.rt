@@ -1,4 +1,4 @@
-// Any run of calls on a day, made anew from the start.
+// Any run of calls on a day, sheets among them, made anew from the start.
 #![tactic(auto)]
 
 pub mod call;

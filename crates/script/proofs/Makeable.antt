@@ -4,7 +4,7 @@ use Rattle.std.proofs.lemmas.List.{drop_more, drop_all, map_push}
 use Rattle.std.proofs.lemmas.Bool.{true≢false, false≢true}
 use Rattle.curve.specs.declared.fault.CurveFault.{CurveFault}
 use Rattle.curve.specs.declared.written.Written.{Written}
-use Rattle.runs.specs.declared.call.Call.{Call}
+use Rattle.replay.specs.declared.call.Call.{Call}
 use Rattle.script.specs.Entries.{PlainCall, entry_call, plain_call, entry_fault, unless_faulty, makeable}
 use Rattle.script.specs.declared.entry.Entry.{Entry}
 

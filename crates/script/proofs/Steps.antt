@@ -2,7 +2,7 @@
 use Rattle.std.proofs.Common.{◌≡◌, ℕ, ◌+◌, ◌<◌, ◌≤◌, List, ◌∷◌, ◌++◌, length, get_or, drop, sym, ◌∙◌, subst, append_assoc, append-nil}
 use Rattle.std.proofs.lemmas.List.{drop_more, drop_all}
 use Rattle.curve.specs.declared.written.Written.{Written}
-use Rattle.runs.specs.declared.call.Moment.{Moment}
+use Rattle.replay.specs.declared.call.Moment.{Moment}
 use Rattle.script.specs.Entries.{entry_fault}
 use Rattle.script.specs.Telling.{spaced, entry_text, moments_after, report_text}
 use Rattle.script.specs.declared.entry.Entry.{Entry}

@@ -4,9 +4,9 @@ use Rattle.curve.specs.WrittenCurves.{written_fault}
 use Rattle.curve.specs.declared.fault.CurveFault.{CurveFault}
 use Rattle.curve.specs.declared.written.Written.{Written}
 use Rattle.slots.specs.declared.slot.Slot.{Slot}
-use Rattle.runs.specs.declared.call.Buffers.{Buffers}
-use Rattle.runs.specs.declared.call.Call.{Call}
-use Rattle.runs.specs.declared.call.Call.TheVariants as calls
+use Rattle.replay.specs.declared.call.Buffers.{Buffers}
+use Rattle.replay.specs.declared.call.Call.{Call}
+use Rattle.replay.specs.declared.call.Call.TheVariants as calls
 use Rattle.script.specs.declared.entry.Entry.{Entry}
 use Rattle.script.specs.declared.entry.Entry.TheVariants as entries
 

@@ -7,9 +7,9 @@ use Rattle.curve.specs.declared.fault.CurveFault.{CurveFault}
 use Rattle.curve.specs.declared.written.Written.{Written}
 use Rattle.slots.specs.Refusals.{refusal_number, refusal_slot}
 use Rattle.sheet.specs.Faults as sheets
-use Rattle.runs.specs.declared.call.Answer.{Answer}
-use Rattle.runs.specs.declared.call.Answer.TheVariants.{Done, Cost, Planned, Refused, Unread}
-use Rattle.runs.specs.declared.call.Moment.{Moment}
+use Rattle.replay.specs.declared.call.Answer.{Answer}
+use Rattle.replay.specs.declared.call.Answer.TheVariants.{Done, Cost, Planned, Refused, Unread}
+use Rattle.replay.specs.declared.call.Moment.{Moment}
 use Rattle.script.specs.Entries.{entry_fault}
 use Rattle.script.specs.declared.entry.Entry.{Entry}
 use Rattle.script.specs.declared.fault.ScriptFault.{ScriptFault}

@@ -7,7 +7,7 @@ ghost use Rattle.script.specs.Telling.{spaced, answer_text, entry_text, moments_
 
 use crate::entry::Entry;
 use curve::written::Written;
-use runs::call::{Answer, Call, Moment};
+use replay::call::{Answer, Call, Moment};
 use std::alloc::{AllocError, Global};
 use std::fmt::Display;
 use std::slice::Iter;

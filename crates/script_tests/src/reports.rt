@@ -1,5 +1,5 @@
 // The line that tells each answer.
-use runs::call::Answer;
+use replay::call::Answer;
 use script::report::describe;
 use sheet::fault::{RecordFault, SheetFault};
 use std::test::Fail;

@@ -3,7 +3,7 @@ use Rattle.std.proofs.lemmas.List.{length-take-le}
 use Rattle.day.specs.Edits.{add_refusal, replace_refusal}
 use Rattle.replay.specs.PlainRun.{terms}
 use Rattle.day.specs.View.{plain, memory_of, wrote}
-use Rattle.replay.proofs.Tellings.{edit_told}
+use Rattle.replay.proofs.Tellings.{edit_told, sheet_told}
 use Rattle.replay.proofs.replay.make.Goals as goal
 
 pub returns-in-Add : goal.returns-in-Add
@@ -14,7 +14,7 @@ returns-in-Add g c =
     let telling = edit_told (terms g.C.Curve.ground g.C.Curve.steps (plain day)) refusal c.edit_answer.ensures made.answer in
     let count = sym (length-take-le day.count day.slots.now day.stored) in
     let memory = made.memory ∙ ap (λ (n : ℕ). wrote refusal (memory_of day) n c.in-Add.slot) count in
-    rw c.in-Add.is (record { day = made.day; memory = memory; unmade = tt; lender = made.lender; answer = telling.0; leaning = telling.1 })
+    rw c.in-Add.is (record { day = made.day; memory = memory; unmade = tt; spared = tt; lender = made.lender; answer = telling.0; leaning = telling.1 })
 
 pub returns-in-Replace : goal.returns-in-Replace
 returns-in-Replace g c =
@@ -22,4 +22,11 @@ returns-in-Replace g c =
     let made = c.replace.ensures in
     let refusal = replace_refusal day c.in-Replace.place c.in-Replace.slot in
     let telling = edit_told (terms g.C.Curve.ground g.C.Curve.steps day) refusal c.edit_answer-in-Replace.ensures made.answer in
-    rw c.in-Replace.is (record { day = made.day; memory = made.memory; unmade = tt; lender = made.lender; answer = telling.0; leaning = telling.1 })
+    rw c.in-Replace.is (record { day = made.day; memory = made.memory; unmade = tt; spared = tt; lender = made.lender; answer = telling.0; leaning = telling.1 })
+
+pub returns-in-Sheet : goal.returns-in-Sheet
+returns-in-Sheet g c =
+    let day = plain c.args.day.now in
+    let made = c.read.ensures in
+    let telling = sheet_told (terms g.C.Curve.ground g.C.Curve.steps day) (g.R.Sheets.decoded day.room c.in-Sheet.bytes.now) c.sheet_answer.ensures made.answer in
+    rw c.in-Sheet.is (record { day = made.day; memory = made.memory; unmade = tt; spared = tt; lender = made.lender; answer = telling.0; leaning = telling.1 })

@@ -14,16 +14,16 @@ loop-call-init g c =
     (refl, refl, record { day_is = opened.day ∙ ap empty_day (sym opened.memory); held_is = refl }, rw c.new-moments.ensures.items tt)
 
 -- the call of this turn is made
-ran_next : (g : given.Over) (c : In-Ok g) → Ran (memory_of c.open-day.result) (take (c.loop-call.call-index + 1) c.args.calls.now) (plain c.make.new.day) (memory_of c.make.new.day)
+ran_next : (g : given.Over) (c : In-Ok g) → Ran g.R.Sheets.decoded (memory_of c.open-day.result) (take (c.loop-call.call-index + 1) c.args.calls.now) (plain c.make.new.day) (memory_of c.make.new.day)
 ran_next g c =
     let made = c.in-Ok.ensures in
-    ran_more (memory_of c.open-day.result) c.args.calls.now c.loop-call.call-index c.call-item.result (omega arith) c.call-item.is (plain c.loop-call.day) (memory_of c.loop-call.day) c.loop-call.invariant.2 (plain c.make.new.day) (memory_of c.make.new.day) made.day made.memory
+    ran_more g.R.Sheets.decoded (memory_of c.open-day.result) c.args.calls.now c.loop-call.call-index c.call-item.result (omega arith) c.call-item.is (plain c.loop-call.day) (memory_of c.loop-call.day) c.loop-call.invariant.2 (plain c.make.new.day) (memory_of c.make.new.day) made.day made.memory
 
 pub returns-in_default : goal.returns-in_default
 returns-in_default g c =
     let unmade = c.in_default.ensures.unmade in
     let opened = c.open-day.ensures.memory in
-    let held : memory_of c.make.new.day ≡ memory_after_all (empty_day c.args.memory.now) c.args.memory.now (take c.loop-call.made c.args.calls.now) = cc in
+    let held : memory_of c.make.new.day ≡ memory_after_all g.R.Sheets.decoded (empty_day c.args.memory.now) c.args.memory.now (take c.loop-call.made c.args.calls.now) = cc in
     record { promise = tt; memory = rw (sym held) (search rules) }
 
 pub overflow_add-made : goal.overflow_add-made
@@ -33,23 +33,23 @@ pub returns-in_default-note : goal.returns-in_default-note
 returns-in_default-note g c =
     let next = (ran_next g (goal.at.returns-in_default-note g c).In-Ok).held_is in
     let opened = c.open-day.ensures.memory in
-    let held : memory_of c.make.new.day ≡ memory_after_all (empty_day c.args.memory.now) c.args.memory.now (take (c.loop-call.made + 1) c.args.calls.now) = cc in
+    let held : memory_of c.make.new.day ≡ memory_after_all g.R.Sheets.decoded (empty_day c.args.memory.now) c.args.memory.now (take (c.loop-call.made + 1) c.args.calls.now) = cc in
     record { promise = tt; memory = rw (sym held) (search rules) }
 
 pub loop-call-preserved : goal.loop-call-preserved
 loop-call-preserved g c =
     let made = c.in-Ok.ensures in
     let noted = c.in-Ok-note.ensures in
-    let answered = answered_from g.C.Curve.ground g.C.Curve.steps (plain c.loop-call.day) (plain c.make.new.day) c.call-item.result noted.0 c.in-Ok.answer noted.2 noted.3 made.day made.answer made.leaning in
-    let follows = follows_more (memory_of c.open-day.result) c.args.calls.now c.loop-call.call-index c.call-item.result (omega arith) c.call-item.is (plain c.loop-call.day) (memory_of c.loop-call.day) c.loop-call.invariant.2 g.C.Curve.ground g.C.Curve.steps (vec_items c.loop-call.moments) (vec_items c.note.new.moments) noted.0 c.loop-call.invariant.3 noted.1 answered in
+    let answered = answered_from g.R.Sheets.decoded g.C.Curve.ground g.C.Curve.steps (plain c.loop-call.day) (plain c.make.new.day) c.call-item.result noted.0 c.in-Ok.answer noted.2 noted.3 made.day made.answer made.leaning in
+    let follows = follows_more g.R.Sheets.decoded (memory_of c.open-day.result) c.args.calls.now c.loop-call.call-index c.call-item.result (omega arith) c.call-item.is (plain c.loop-call.day) (memory_of c.loop-call.day) c.loop-call.invariant.2 g.C.Curve.ground g.C.Curve.steps (vec_items c.loop-call.moments) (vec_items c.note.new.moments) noted.0 c.loop-call.invariant.3 noted.1 answered in
     (omega arith, made.lender ∙ c.loop-call.invariant.1, ran_next g (goal.at.loop-call-preserved g c).In-Ok, follows)
 
 pub returns : goal.returns
 returns g c =
     let whole : take c.loop-call.call-index c.args.calls.now ≡ c.args.calls.now = take_all c.loop-call.call-index c.args.calls.now (omega arith) in
     let opened = c.open-day.ensures.memory in
-    let held : memory_of c.loop-call.day ≡ memory_after_all (empty_day c.args.memory.now) c.args.memory.now c.args.calls.now = cc in
+    let held : memory_of c.loop-call.day ≡ memory_after_all g.R.Sheets.decoded (empty_day c.args.memory.now) c.args.memory.now c.args.calls.now = cc in
     record {
-      promise = promised g.C.Curve.ground g.C.Curve.steps g.met.C.Curve.rising _ _ _ (rw (whole, opened) at c.loop-call.invariant.3);
+      promise = promised g.C.Curve.ground g.C.Curve.steps g.R.Sheets.decoded g.met.C.Curve.rising g.met.R.Sheets.proper _ _ _ (rw (whole, opened) at c.loop-call.invariant.3);
       memory = rw (sym held) (search rules);
     }

@@ -11,5 +11,5 @@ invariant-loop-call g l =
     let calls = take l.call-index l.calls in
     (l.made ≡ l.call-index)
     × (l.day.slots.ghost_name ≡ l.initial.day.slots.ghost_name)
-    × Ran memory calls (plain l.day) (memory_of l.day)
-    × Follows g.C.Curve.ground g.C.Curve.steps (empty_day memory) calls (vec_items l.moments)
+    × Ran g.R.Sheets.decoded memory calls (plain l.day) (memory_of l.day)
+    × Follows g.C.Curve.ground g.C.Curve.steps g.R.Sheets.decoded (empty_day memory) calls (vec_items l.moments)
