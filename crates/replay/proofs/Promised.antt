@@ -16,8 +16,10 @@ use Rattle.slots.specs.Slots.{all_proper}
 use Rattle.day.specs.View.{empty_day}
 use Rattle.replay.specs.PlainRun.{done, cost, planned, unless_refused, read_told, told_by, after, terms, answer}
 use Rattle.replay.specs.Promise.{Accepted, Decided, DecidedUntilEdit, Best, Leaning, Answered, Follows, Sound, AlwaysSound, Promise}
-use Rattle.replay.specs.declared.call.Answer.{Answer}
-use Rattle.replay.specs.declared.call.Answer.TheVariants.{Done, Cost, Planned, Refused, Unread}
+use Rattle.replay.specs.declared.answer.Answer.{Answer}
+use Rattle.replay.specs.declared.answer.Answer.TheVariants.{Done, Cost, Planned}
+use Rattle.replay.specs.declared.answer.CallFault.{CallFault}
+use Rattle.replay.specs.declared.answer.CallFault.TheVariants.{Refused, Unread}
 use Rattle.replay.specs.declared.call.Buffers.{Buffers}
 use Rattle.replay.specs.declared.call.Call.{Call}
 use Rattle.replay.specs.declared.call.Call.TheVariants.{Add, Replace, Drop, Sheet, Price, Plan, Check}
@@ -31,22 +33,21 @@ use Rattle.planner.proofs.Convexity.{all_convex, all_open}
 use Rattle.day.proofs.Fronts.{proper_push, proper_set, proper_take}
 
 -- a check that is accepted was not refused
-not_refused : (refusal : Option Refusal) (c : ℤ) (a : Answer) → told_by a ≡ unless_refused refusal (cost c) → Accepted a → refusal ≡ None
+not_refused : (refusal : Option Refusal) (c : ℤ) (a : Result Answer CallFault) → told_by a ≡ unless_refused refusal (cost c) → Accepted a → refusal ≡ None
 not_refused None c a told ok = refl
-not_refused (Some refusal) c Done told ok = absurd ok
-not_refused (Some refusal) c (Cost d) told ok = grind arith
-not_refused (Some refusal) c (Planned d levels leans) told ok = absurd ok
-not_refused (Some refusal) c (Refused r) told ok = absurd ok
-not_refused (Some refusal) c (Unread f) told ok = absurd ok
+not_refused (Some refusal) c (Ok Done) told ok = absurd ok
+not_refused (Some refusal) c (Ok (Cost d)) told ok = cc
+not_refused (Some refusal) c (Ok (Planned d levels leans)) told ok = absurd ok
+not_refused (Some refusal) c (Err fault) told ok = absurd ok
 
 -- and one that is not refused is accepted
-accepted : (refusal : Option Refusal) (c : ℤ) (a : Answer) → told_by a ≡ unless_refused refusal (cost c) → refusal ≡ None → Accepted a
-accepted (Some refusal) c a told none = grind arith
-accepted None c Done told none = grind arith
-accepted None c (Cost d) told none = tt
-accepted None c (Planned d levels leans) told none = grind arith
-accepted None c (Refused r) told none = grind arith
-accepted None c (Unread f) told none = grind arith
+accepted : (refusal : Option Refusal) (c : ℤ) (a : Result Answer CallFault) → told_by a ≡ unless_refused refusal (cost c) → refusal ≡ None → Accepted a
+accepted (Some refusal) c a told none = absurd cc
+accepted None c (Ok Done) told none = cc
+accepted None c (Ok (Cost d)) told none = tt
+accepted None c (Ok (Planned d levels leans)) told none = cc
+accepted None c (Err (Refused refusal)) told none = cc
+accepted None c (Err (Unread fault)) told none = cc
 
 -- a plan told is the one that there is to tell, with its cost
 plan_told :
@@ -57,7 +58,7 @@ plan_told (Some refusal) c d xs ys told = grind arith
 module _ {C : Type 0} where
   -- an edit that is not told as done was refused, and changes nothing
   not_done :
-      (d : PlainDay C) (refusal : Option Refusal) (slots : List (Slot C)) (a : Answer) → told_by a ≡ unless_refused refusal done → (told_by a ≡ done → ⊥) →
+      (d : PlainDay C) (refusal : Option Refusal) (slots : List (Slot C)) (a : Result Answer CallFault) → told_by a ≡ unless_refused refusal done → (told_by a ≡ done → ⊥) →
       edited d refusal slots ≡ d
   not_done d None slots a told undone = absurd (undone told)
   not_done d (Some refusal) slots a told undone = refl
@@ -70,7 +71,7 @@ module _ {C : Type 0} where
   edit_proper d (Some refusal) slots good made = good
 
   -- a sheet that is not told as done was refused, and changes nothing
-  not_read : (d : PlainDay C) (read : Result (List (Slot C)) SheetFault) (a : Answer) → told_by a ≡ read_told read → (told_by a ≡ done → ⊥) → replaced d read ≡ d
+  not_read : (d : PlainDay C) (read : Result (List (Slot C)) SheetFault) (a : Result Answer CallFault) → told_by a ≡ read_told read → (told_by a ≡ done → ⊥) → replaced d read ≡ d
   not_read d (Ok slots) a told undone = absurd (undone told)
   not_read d (Err fault) a told undone = refl
 
@@ -94,7 +95,7 @@ module _ {C : Type 0} (decoded : ℕ → List ℕ → Result (List (Slot C)) She
 
 module _ {C : Type 0} (ground : C → ℤ) (steps : C → ℕ → ℤ) (decoded : ℕ → List ℕ → Result (List (Slot C)) SheetFault) where
   -- as long as no edit is told as done, the plain day stays the same
-  stays : (d : PlainDay C) (c : Call C) (a : Answer) → told_by a ≡ answer ground steps decoded d c → (told_by a ≡ done → ⊥) → after decoded d c ≡ d
+  stays : (d : PlainDay C) (c : Call C) (a : Result Answer CallFault) → told_by a ≡ answer ground steps decoded d c → (told_by a ≡ done → ⊥) → after decoded d c ≡ d
   stays d (Add s) a told undone = not_done d (add_refusal d s) (d.slots ++ s ∷ []) a told undone
   stays d (Replace i s) a told undone = not_done d (replace_refusal d i s) (set d.slots i s) a told undone
   stays d Drop a told undone = not_done d (drop_refusal d) (take (length d.slots - 1) d.slots) a told undone
@@ -113,12 +114,12 @@ module _ {C : Type 0} (ground : C → ℤ) (steps : C → ℕ → ℤ) (decoded 
       convex = all_convex ground steps rising d.slots good
 
       -- whatever a check accepts is cheapest
-      certified : (xs : List ℕ) (ls : List ℤ) (a : Answer) → told_by a ≡ unless_refused (check_refusal ts xs ls) (cost (price None ts xs)) → Accepted a → Cheapest None ts xs
+      certified : (xs : List ℕ) (ls : List ℤ) (a : Result Answer CallFault) → told_by a ≡ unless_refused (check_refusal ts xs ls) (cost (price None ts xs)) → Accepted a → Cheapest None ts xs
       certified xs ls a told ok = cheapest_from_accepted ts xs ls convex (not_refused (check_refusal ts xs ls) (price None ts xs) a told ok)
 
       module _ (xs : List ℕ) (ls : List ℤ) (within : Within ts xs) (obeys : Obeys None ts xs ls) where
         -- with leans that obey the rules with some plan, a check accepts exactly the cheapest plans
-        decided : (c : Call C) (a : Answer) → told_by a ≡ answer ground steps decoded d c → Decided ts ls c a
+        decided : (c : Call C) (a : Result Answer CallFault) → told_by a ≡ answer ground steps decoded d c → Decided ts ls c a
         decided (Add s) a told = tt
         decided (Replace i s) a told = tt
         decided Drop a told = tt
@@ -143,17 +144,16 @@ module _ {C : Type 0} (ground : C → ℤ) (steps : C → ℕ → ℤ) (decoded 
 
       -- a plan that is told is the coldest of the cheapest plans, with its price, and its leans decide
       best :
-          (b : Buffers) (a : Answer) (calls : List (Call C)) (moments : List (Moment C)) →
+          (b : Buffers) (a : Result Answer CallFault) (calls : List (Call C)) (moments : List (Moment C)) →
           told_by a ≡ answer ground steps decoded d (Plan b) → Leaning ts a → Follows ground steps decoded d calls moments → Best ts a calls moments
-      best b Done calls moments told leaning follows = tt
-      best b (Cost c) calls moments told leaning follows = tt
-      best b (Planned c levels leans) calls moments told leaning follows =
+      best b (Ok Done) calls moments told leaning follows = tt
+      best b (Ok (Cost c)) calls moments told leaning follows = tt
+      best b (Ok (Planned c levels leans)) calls moments told leaning follows =
           let refusal = plan_refusal (length d.slots) b.levels b.leans b.table b.marks in
           let same = plan_told refusal c (price None ts (plan None ts)) (vec_items levels) (plan None ts) told in
           let coldest : Coldest None ts (vec_items levels) = rw same.1 (plan_is_coldest None ts convex (all_open ground steps d.slots good)) in
           (cc, coldest, decided_until_edit (vec_items levels) (vec_items leans) coldest.cheapest.within leaning calls moments follows)
-      best b (Refused refusal) calls moments told leaning follows = tt
-      best b (Unread fault) calls moments told leaning follows = tt
+      best b (Err fault) calls moments told leaning follows = tt
 
       -- what is told of one call is sound
       sound :

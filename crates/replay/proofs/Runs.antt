@@ -6,7 +6,8 @@ use Rattle.day.specs.PlainDay.{PlainDay}
 use Rattle.replay.specs.PlainRun.{told_by, after, memory_after, memory_after_all, terms, answer}
 use Rattle.replay.specs.Promise.{Leaning, Answered, Follows}
 use Rattle.day.specs.View.{empty_day}
-use Rattle.replay.specs.declared.call.Answer.{Answer}
+use Rattle.replay.specs.declared.answer.Answer.{Answer}
+use Rattle.replay.specs.declared.answer.CallFault.{CallFault}
 use Rattle.replay.specs.declared.call.Call.{Call}
 use Rattle.replay.specs.declared.call.Moment.{Moment}
 use Rattle.slots.specs.declared.slot.Slot.{Slot}
@@ -65,7 +66,7 @@ module _ {C : Type 0} (decoded : ℕ → List ℕ → Result (List (Slot C)) She
 
   -- a moment with the answer to a call and the slots after it
   pub answered_from :
-      (ground : C → ℤ) (steps : C → ℕ → ℤ) (d d' : PlainDay C) (c : Call C) (m : Moment C) (a : Answer) → m.answer ≡ a → vec_items m.slots ≡ d'.slots → d' ≡ after decoded d c →
+      (ground : C → ℤ) (steps : C → ℕ → ℤ) (d d' : PlainDay C) (c : Call C) (m : Moment C) (a : Result Answer CallFault) → m.answer ≡ a → vec_items m.slots ≡ d'.slots → d' ≡ after decoded d c →
       told_by a ≡ answer ground steps decoded d c → Leaning (terms ground steps d) a → Answered ground steps decoded d c m
   answered_from ground steps d d' c m a same slots made told leaning =
       record { slots = slots ∙ ap (λ (x : PlainDay C). x.slots) made; told = ap told_by same ∙ told; leaning = rw same leaning }

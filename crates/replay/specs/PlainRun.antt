@@ -14,8 +14,10 @@ use Rattle.sheet.specs.Sheets.{replaced, laid_over}
 use Rattle.sheet.specs.declared.fault.SheetFault.{SheetFault}
 use Rattle.slots.specs.declared.refusal.Refusal.{Refusal}
 use Rattle.slots.specs.declared.slot.Slot.{Slot}
-use Rattle.replay.specs.declared.call.Answer.{Answer}
-use Rattle.replay.specs.declared.call.Answer.TheVariants.{Done, Cost, Planned, Refused, Unread}
+use Rattle.replay.specs.declared.answer.Answer.{Answer}
+use Rattle.replay.specs.declared.answer.Answer.TheVariants.{Done, Cost, Planned}
+use Rattle.replay.specs.declared.answer.CallFault.{CallFault}
+use Rattle.replay.specs.declared.answer.CallFault.TheVariants.{Refused, Unread}
 use Rattle.replay.specs.declared.call.Unfinished.{Unfinished}
 use Rattle.replay.specs.declared.call.Buffers.{Buffers}
 use Rattle.replay.specs.declared.call.Call.{Call}
@@ -101,9 +103,9 @@ module _ {C : Type 0} (ground : C → ℤ) (steps : C → ℕ → ℤ) where
     answer d (Check xs ls) = unless_refused (check_refusal (terms d) xs.now ls.now) (cost (price None (terms d) xs.now))
 
 -- what the program tells, leans apart
-abbrev pub told_by : Answer → Told
-told_by Done = done
-told_by (Cost c) = cost c
-told_by (Planned c levels leans) = planned c (vec_items levels)
-told_by (Refused refusal) = refused (refusal_number refusal) (refusal_slot refusal)
-told_by (Unread fault) = unread (record_number fault.fault) fault.slot fault.place
+abbrev pub told_by : Result Answer CallFault → Told
+told_by (Ok Done) = done
+told_by (Ok (Cost c)) = cost c
+told_by (Ok (Planned c levels leans)) = planned c (vec_items levels)
+told_by (Err (Refused refusal)) = refused (refusal_number refusal) (refusal_slot refusal)
+told_by (Err (Unread fault)) = unread (record_number fault.fault) fault.slot fault.place

@@ -2,7 +2,6 @@ pub mod Buffers
 pub mod Chains
 pub mod Cuts
 pub mod Loops
-pub mod Makeable
 pub mod Numbers
 pub mod Openings
 pub mod Pairs
