@@ -3,7 +3,7 @@
 
 use anyhow::anyhow;
 use curve::written::Written;
-use runs::replay::replay_written;
+use replay::replay::replay_written;
 use script::parse::parse;
 use script::report::{calls_of, report};
 use slots::limits::MOST_SLOTS;

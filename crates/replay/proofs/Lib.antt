@@ -1,3 +1,4 @@
+pub mod Mapped
 pub mod Planned
 pub mod Promised
 pub mod Runs

@@ -5,15 +5,14 @@ use Rattle.curve.specs.Limits.{last_step}
 use Rattle.optimum.specs.Coldest.{plan}
 use Rattle.optimum.specs.Leans.{Obeys}
 use Rattle.optimum.specs.Plans.{Terms, price}
-use Rattle.day.specs.PlainDay.{PlainDay}
 use Rattle.slots.specs.SlotTerms.{slot_terms}
+use Rattle.day.specs.PlainDay.{PlainDay}
 use Rattle.replay.specs.PlainRun as run
-use Rattle.replay.specs.PlainRun.{terms, answer, unless_refused}
+use Rattle.replay.specs.PlainRun.{terms, plan_told, unless_refused}
 use Rattle.planner.specs.Planning.{plan_refusal, planned, Leaned}
 use Rattle.slots.specs.Refusals.{refusal_number, refusal_slot, told}
 use Rattle.slots.specs.Slots.{all_proper}
 use Rattle.replay.specs.declared.call.Buffers.{Buffers}
-use Rattle.replay.specs.declared.call.Call.TheVariants.{Plan}
 use Rattle.slots.specs.declared.refusal.Refusal.{Refusal}
 use Rattle.planner.proofs.Convexity.{plan_each}
 
@@ -43,13 +42,13 @@ module _ {C : Type 0} (ground : C → ℤ) (steps : C → ℕ → ℤ) (d : Plai
   refusal_in buffers = plan_refusal count buffers.levels buffers.leans buffers.table buffers.marks
 
   -- what the plain day tells by that refusal
-  telling : (buffers : Buffers) (refusal : Option Refusal) → refusal_in buffers ≡ refusal → answer ground steps d (Plan buffers) ≡ unless_refused refusal (run.planned (price None ts best) best)
+  telling : (buffers : Buffers) (refusal : Option Refusal) → refusal_in buffers ≡ refusal → plan_told ground steps d buffers ≡ unless_refused refusal (run.planned (price None ts best) best)
   telling buffers refusal = ap (λ (r : Option Refusal). unless_refused r (run.planned (price None ts best) best))
 
   -- a plan that was refused is told as the plain day tells it
   pub plan_refused :
       (buffers : Buffers) (refusal : Option Refusal) (e : Refusal) → refusal ≡ refusal_in buffers → Err e ≡ told refusal (price None ts best) →
-      run.refused (refusal_number e) (refusal_slot e) ≡ answer ground steps d (Plan buffers)
+      run.refused (refusal_number e) (refusal_slot e) ≡ plan_told ground steps d buffers
   plan_refused buffers refusal e same refused = sym (telling buffers (Some e) (sym same ∙ refused_by refusal e (price None ts best) refused))
 
   module _ (rising : (c : C) (v : ℕ) → v < last_step → steps c v ≤ℤ steps c (suc v)) (proper : all_proper d.slots ≡ true) where
@@ -66,7 +65,7 @@ module _ {C : Type 0} (ground : C → ℤ) (steps : C → ℕ → ℤ) (d : Plai
         (buffers : Buffers) (refusal : Option Refusal) (cost : ℤ) (levels_before levels_after levels : List ℕ) (leans_before leans_after leans : List ℤ) →
         refusal ≡ refusal_in buffers → Ok cost ≡ told refusal (price None ts best) → levels_after ≡ planned refusal best levels_before → Leaned refusal ts leans_before leans_after →
         levels ≡ take count levels_after → leans ≡ take count leans_after →
-        (run.planned cost levels ≡ answer ground steps d (Plan buffers)) × Obeys None ts levels leans
+        (run.planned cost levels ≡ plan_told ground steps d buffers) × Obeys None ts levels leans
     plan_answered buffers refusal cost levels_before levels_after levels leans_before leans_after leans same priced written leaned first_levels first_leans =
         let sure = accepted refusal cost (price None ts best) priced in
         let found = levels_planned levels_before in

@@ -1,2 +1,3 @@
 pub mod PlainRun
 pub mod Promise
+pub mod Telling

@@ -1,5 +1,5 @@
-// The calls that a run is made of, and what each is answered.
-use slots::refusal::Refusal;
+// The calls that a run is made of, and the moment that each makes.
+use crate::answer::{Answer, CallFault};
 use slots::slot::Slot;
 
 // The lengths of the buffers that are lent for a plan.
@@ -16,27 +16,16 @@ pub enum Call<'c, C> {
     Add(Slot<C>),
     Replace(usize, Slot<C>),
     Drop,
+    Sheet(&'c [u8]),
     Price(&'c [u16]),
     Plan(Buffers),
     Check(&'c [u16], &'c [i64]),
 }
 
-#[derive(Drop)]
-pub enum Answer {
-    Done,
-    Cost(i64),
-    Planned {
-        cost: i64,
-        levels: Vec<u16>,
-        leans: Vec<i64>,
-    },
-    Refused(Refusal),
-}
-
 // One call's answer, and the day's slots after it.
 #[derive(Drop)]
 pub struct Moment<C> {
-    pub answer: Answer,
+    pub answer: Result<Answer, CallFault>,
     pub slots: Vec<Slot<C>>,
 }
 

@@ -1,7 +1,6 @@
 pub mod Cuts
 pub mod Digits
 pub mod Knots
-pub mod Makeable
 pub mod Readings
 pub mod Sides
 pub mod Steps

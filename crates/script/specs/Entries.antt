@@ -1,12 +1,13 @@
 -- What an entry of a journal says, and the calls that are made of entries.
-use Rattle.std.specs.Prelude.{ℕ, List, [], ◌∷◌, ℤ, Some, None, vec_items, Option}
+use Rattle.std.specs.Prelude.{ℕ, List, map, is_none, ℤ, None, vec_items, Option}
+use Rattle.std.specs.List.{filter}
 use Rattle.curve.specs.WrittenCurves.{written_fault}
 use Rattle.curve.specs.declared.fault.CurveFault.{CurveFault}
 use Rattle.curve.specs.declared.written.Written.{Written}
 use Rattle.slots.specs.declared.slot.Slot.{Slot}
-use Rattle.runs.specs.declared.call.Buffers.{Buffers}
-use Rattle.runs.specs.declared.call.Call.{Call}
-use Rattle.runs.specs.declared.call.Call.TheVariants as calls
+use Rattle.replay.specs.declared.call.Buffers.{Buffers}
+use Rattle.replay.specs.declared.call.Call.{Call}
+use Rattle.replay.specs.declared.call.Call.TheVariants as calls
 use Rattle.script.specs.declared.entry.Entry.{Entry}
 use Rattle.script.specs.declared.entry.Entry.TheVariants as entries
 
@@ -50,12 +51,6 @@ entry_fault (entries.Price levels) = None
 entry_fault (entries.Plan lengths) = None
 entry_fault (entries.Check levels leans) = None
 
--- an entry before others, unless its curve cannot be made
-abbrev pub unless_faulty : Option CurveFault → PlainCall → List PlainCall → List PlainCall
-unless_faulty None c cs = c ∷ cs
-unless_faulty (Some fault) c cs = cs
-
 -- what the entries say whose curves can be made, in their order
 abbrev pub makeable : List Entry → List PlainCall
-makeable [] = []
-makeable (e ∷ es) = unless_faulty (entry_fault e) (entry_call e) (makeable es)
+makeable es = map entry_call (filter (λ e. is_none (entry_fault e)) es)

@@ -5,7 +5,7 @@ use Rattle.std.specs.Str.{bytes_eq}
 use Rattle.curve.specs.declared.written.Written.{Written}
 use Rattle.curve.specs.declared.written.Written.TheVariants.{Square, Band, Knees}
 use Rattle.slots.specs.declared.slot.Slot.{Slot}
-use Rattle.runs.specs.declared.call.Buffers.{Buffers}
+use Rattle.replay.specs.declared.call.Buffers.{Buffers}
 use Rattle.script.specs.declared.line.Knots.{Knots}
 use Rattle.script.specs.Words.{cut, word, only_if, and_then, unsigned, signed, each}
 use Rattle.script.specs.Bytes.{bytes_of}

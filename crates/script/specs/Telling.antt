@@ -1,33 +1,15 @@
--- The lines that tell answers.
-use Rattle.std.specs.Prelude.{ℕ, List, [], ◌∷◌, ◌++◌, Some, None, vec_items, codes, decimal, Option}
-use Rattle.std.specs.Fmt.{signed_decimal}
+-- The lines of a report, and of a text that is no journal.
+use Rattle.std.specs.Prelude.{ℕ, List, [], ◌∷◌, ◌++◌, Some, None, codes, decimal, Option}
 use Rattle.curve.specs.Answers.{refused_text}
 use Rattle.curve.specs.Faults.{fault_number}
 use Rattle.curve.specs.declared.fault.CurveFault.{CurveFault}
 use Rattle.curve.specs.declared.written.Written.{Written}
-use Rattle.slots.specs.Refusals.{refusal_number, refusal_slot}
-use Rattle.sheet.specs.Faults as sheets
-use Rattle.runs.specs.declared.call.Answer.{Answer}
-use Rattle.runs.specs.declared.call.Answer.TheVariants.{Done, Cost, Planned, Refused, Unread}
-use Rattle.runs.specs.declared.call.Moment.{Moment}
+use Rattle.replay.specs.Telling.{answer_text}
+use Rattle.replay.specs.declared.call.Moment.{Moment}
 use Rattle.script.specs.Entries.{entry_fault}
 use Rattle.script.specs.declared.entry.Entry.{Entry}
 use Rattle.script.specs.declared.fault.ScriptFault.{ScriptFault}
 use Rattle.script.specs.declared.fault.ScriptFault.TheVariants.{NotACall, NoMemory}
-
--- a space and a number, for each number
-abbrev pub spaced : {X : Type 0} → (X → List ℕ) → List X → List ℕ
-spaced write [] = []
-spaced write (x ∷ xs) = 32 ∷ (write x ++ spaced write xs)
-
--- the line that tells an answer
-abbrev pub answer_text : Answer → List ℕ
-answer_text Done = codes "ok"
-answer_text (Cost c) = codes "cost " ++ signed_decimal c
-answer_text (Planned c levels leans) =
-    codes "cost " ++ (signed_decimal c ++ (codes " levels" ++ (spaced decimal (vec_items levels) ++ (codes " leans" ++ spaced signed_decimal (vec_items leans)))))
-answer_text (Refused refusal) = refused_text (refusal_number refusal) (refusal_slot refusal)
-answer_text (Unread fault) = sheets.fault_text fault
 
 -- the line of an entry: that of its curve's fault, else that of the next moment
 abbrev pub entry_text : Option CurveFault → List (Moment Written) → List ℕ

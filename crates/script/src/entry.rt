@@ -4,7 +4,7 @@ ghost use Rattle.script.specs.Entries.{entry_call, plain_call, entry_fault};
 
 use curve::fault::CurveFault;
 use curve::written::Written;
-use runs::call::{Buffers, Call};
+use replay::call::{Buffers, Call};
 use slots::slot::Slot;
 
 #[derive(Drop)]

@@ -10,7 +10,7 @@ use crate::fault::LineFault;
 use crate::number::{number, numbers};
 use curve::limits::KNEE_LIMIT;
 use curve::written::Written;
-use runs::call::Buffers;
+use replay::call::Buffers;
 use slots::limits::{MOST_SLOTS, TABLE_LENGTH};
 use slots::slot::Slot;
 use std::alloc::Global;

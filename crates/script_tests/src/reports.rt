@@ -1,5 +1,5 @@
 // The line that tells each answer.
-use runs::call::Answer;
+use replay::answer::{Answer, CallFault};
 use script::report::describe;
 use sheet::fault::{RecordFault, SheetFault};
 use std::test::Fail;
@@ -12,7 +12,7 @@ fn a_plan_is_told(rt: HostRuntime) -> Result<(), Fail> {
         levels: [7u16, 0].to_vec(heap)?,
         leans: [0i64, -4].to_vec(heap)?,
     };
-    let line = describe(heap, &answer)?;
+    let line = describe(heap, &Ok(answer))?;
     assert_eq!(rt; line.as_str(), "cost -3 levels 7 0 leans 0 -4");
     Ok(())
 }
@@ -20,11 +20,11 @@ fn a_plan_is_told(rt: HostRuntime) -> Result<(), Fail> {
 #[test]
 fn a_refused_sheet_is_told(rt: HostRuntime) -> Result<(), Fail> {
     let heap = rt.alloc();
-    let answer = Answer::Unread(SheetFault {
+    let answer = Err(CallFault::Unread(SheetFault {
         fault: RecordFault::CutShort,
         slot: 2,
         place: 38,
-    });
+    }));
     let line = describe(heap, &answer)?;
     assert_eq!(rt; line.as_str(), "refused 21 slot 2 byte 38");
     Ok(())

@@ -1,55 +1,63 @@
-use Rattle.std.proofs.Common.{◌≡◌, ◌+◌, take, vec_items, sym, refl, ap, ◌∙◌, arith, rules}
+use Rattle.std.proofs.Common.{◌≡◌, ◌+◌, take, vec_items, sym, refl, ap, ◌∙◌, rules}
 use Rattle.std.proofs.lemmas.List.{take_all}
+use Rattle.std.proofs.lemmas.Result.{err_from_is_err_and}
 use Rattle.replay.specs.PlainRun.{memory_after_all}
 use Rattle.day.specs.View.{plain, memory_of, empty_day}
+use Rattle.replay.proofs.Mapped.{was_ok, was_err, mapped_from}
 use Rattle.replay.proofs.Promised.{promised}
-use Rattle.replay.proofs.Runs.{Ran, ran_more, follows_more, answered_from}
-use Rattle.replay.proofs.replay.replay.Given as given
+use Rattle.replay.proofs.Runs.{ran_more, follows_more, answered_from}
 use Rattle.replay.proofs.replay.replay.Goals as goal
-use Rattle.replay.proofs.replay.replay.Goals.{In-Ok}
 
-pub loop-call-init : goal.loop-call-init
-loop-call-init g c =
+pub loop-made-init : goal.loop-made-init
+loop-made-init g c =
     let opened = c.open-day.ensures in
-    (refl, refl, record { day_is = opened.day ∙ ap empty_day (sym opened.memory); held_is = refl }, rw c.new-moments.ensures.items tt)
+    (refl, record { day_is = opened.day ∙ ap empty_day (sym opened.memory); held_is = refl }, rw c.new-moments.ensures.items tt)
 
--- the call of this turn is made
-ran_next : (g : given.Over) (c : In-Ok g) → Ran (memory_of c.open-day.result) (take (c.loop-call.call-index + 1) c.args.calls.now) (plain c.make.new.day) (memory_of c.make.new.day)
-ran_next g c =
-    let made = c.in-Ok.ensures in
-    ran_more (memory_of c.open-day.result) c.args.calls.now c.loop-call.call-index c.call-item.result (omega arith) c.call-item.is (plain c.loop-call.day) (memory_of c.loop-call.day) c.loop-call.invariant.2 (plain c.make.new.day) (memory_of c.make.new.day) made.day made.memory
-
-pub returns-in_default : goal.returns-in_default
-returns-in_default g c =
-    let unmade = c.in_default.ensures.unmade in
+pub returns-in_err-answer-clause-memory : goal.returns-in_err-answer-clause-memory
+returns-in_err-answer-clause-memory g c =
+    let fault = err_from_is_err_and c.from_residual.result c.from_residual.ensures.1 in
+    let unmade = was_err c.make.result c.map_err.result c.in_err-answer.field-0.0 _ c.in_err-answer.was c.map_err.ensures.cases c.make.ensures.unmade in
+    let cause = mapped_from c.make.result c.map_err.result c.in_err-answer.field-0.0 _ c.in_err-answer.was c.map_err.ensures.cases in
+    let so_far = c.loop-made.invariant.1.held_is in
     let opened = c.open-day.ensures.memory in
-    let held : memory_of c.make.new.day ≡ memory_after_all (empty_day c.args.memory.now) c.args.memory.now (take c.loop-call.made c.args.calls.now) = cc in
-    record { promise = tt; memory = rw (sym held) (search rules) }
+    let because = cause.1 in
+    let count : c.in_err-answer.field-0.0 ≡ record { made = c.loop-made.made-counter } = search rules in
+    let held : memory_of c.make.new.day ≡ memory_after_all g.R.Sheets.decoded (empty_day c.args.memory.now) c.args.memory.now (take c.loop-made.made-counter c.args.calls.now) = cc in
+    rw (fault.1, fault.2, count, ← held) (search rules)
 
-pub overflow_add-made : goal.overflow_add-made
-overflow_add-made g c = omega arith
-
-pub returns-in_default-note : goal.returns-in_default-note
-returns-in_default-note g c =
-    let next = (ran_next g (goal.at.returns-in_default-note g c).In-Ok).held_is in
+pub returns-in_err-map_err-clause-memory : goal.returns-in_err-map_err-clause-memory
+returns-in_err-map_err-clause-memory g c =
+    let fault = err_from_is_err_and c.from_residual-in_err-map_err.result c.from_residual-in_err-map_err.ensures.1 in
+    let cause = mapped_from c.note.result c.map_err-in-loop-made.result c.in_err-map_err.field-0.0 _ c.in_err-map_err.was c.map_err-in-loop-made.ensures.cases in
+    let made = c.make.ensures in
+    let next = ran_more g.R.Sheets.decoded (memory_of c.open-day.result) c.args.calls.now c.loop-made.made-counter c.index-calls-made.result c.loop-made-test.true c.index-calls-made.is (plain c.loop-made.day) (memory_of c.loop-made.day) c.loop-made.invariant.1 (plain c.make.new.day) (memory_of c.make.new.day) made.day made.memory in
+    let now_held = next.held_is in
     let opened = c.open-day.ensures.memory in
-    let held : memory_of c.make.new.day ≡ memory_after_all (empty_day c.args.memory.now) c.args.memory.now (take (c.loop-call.made + 1) c.args.calls.now) = cc in
-    record { promise = tt; memory = rw (sym held) (search rules) }
+    let because = cause.1 in
+    let count : c.in_err-map_err.field-0.0 ≡ record { made = c.loop-made.made-counter + 1 } = search rules in
+    let held : memory_of c.make.new.day ≡ memory_after_all g.R.Sheets.decoded (empty_day c.args.memory.now) c.args.memory.now (take (c.loop-made.made-counter + 1) c.args.calls.now) = cc in
+    rw (fault.1, fault.2, count, ← held) (search rules)
 
-pub loop-call-preserved : goal.loop-call-preserved
-loop-call-preserved g c =
-    let made = c.in-Ok.ensures in
-    let noted = c.in-Ok-note.ensures in
-    let answered = answered_from g.C.Curve.ground g.C.Curve.steps (plain c.loop-call.day) (plain c.make.new.day) c.call-item.result noted.0 c.in-Ok.answer noted.2 noted.3 made.day made.answer made.leaning in
-    let follows = follows_more (memory_of c.open-day.result) c.args.calls.now c.loop-call.call-index c.call-item.result (omega arith) c.call-item.is (plain c.loop-call.day) (memory_of c.loop-call.day) c.loop-call.invariant.2 g.C.Curve.ground g.C.Curve.steps (vec_items c.loop-call.moments) (vec_items c.note.new.moments) noted.0 c.loop-call.invariant.3 noted.1 answered in
-    (omega arith, made.lender ∙ c.loop-call.invariant.1, ran_next g (goal.at.loop-call-preserved g c).In-Ok, follows)
+pub loop-made-preserved : goal.loop-made-preserved
+loop-made-preserved g c =
+    let made = c.make.ensures in
+    let answered = was_ok c.make.result c.map_err.result c.in_ok-answer.answer _ c.in_ok-answer.was c.map_err.ensures.cases in
+    let told = rw answered at made.answer in
+    let leaning = rw answered at made.leaning in
+    let kept = was_ok c.note.result c.map_err-in-loop-made.result c.in_ok-map_err.field-0 _ c.in_ok-map_err.was c.map_err-in-loop-made.ensures.cases in
+    let noted = rw kept at c.note.ensures in
+    let next = ran_more g.R.Sheets.decoded (memory_of c.open-day.result) c.args.calls.now c.loop-made.made-counter c.index-calls-made.result c.loop-made-test.true c.index-calls-made.is (plain c.loop-made.day) (memory_of c.loop-made.day) c.loop-made.invariant.1 (plain c.make.new.day) (memory_of c.make.new.day) made.day made.memory in
+    let moment = answered_from g.R.Sheets.decoded g.C.Curve.ground g.C.Curve.steps (plain c.loop-made.day) (plain c.make.new.day) c.index-calls-made.result noted.0 c.in_ok-answer.answer noted.2 noted.3 made.day told leaning in
+    let follows = follows_more g.R.Sheets.decoded (memory_of c.open-day.result) c.args.calls.now c.loop-made.made-counter c.index-calls-made.result c.loop-made-test.true c.index-calls-made.is (plain c.loop-made.day) (memory_of c.loop-made.day) c.loop-made.invariant.1 g.C.Curve.ground g.C.Curve.steps (vec_items c.loop-made.moments) (vec_items c.note.new.moments) noted.0 c.loop-made.invariant.2 noted.1 moment in
+    (made.lender ∙ c.loop-made.invariant.0, next, follows)
 
 pub returns : goal.returns
 returns g c =
-    let whole : take c.loop-call.call-index c.args.calls.now ≡ c.args.calls.now = take_all c.loop-call.call-index c.args.calls.now (omega arith) in
+    let whole : take c.loop-made.made-counter c.args.calls.now ≡ c.args.calls.now = take_all c.loop-made.made-counter c.args.calls.now c.loop-made-test.false in
+    let so_far = c.loop-made.invariant.1.held_is in
     let opened = c.open-day.ensures.memory in
-    let held : memory_of c.loop-call.day ≡ memory_after_all (empty_day c.args.memory.now) c.args.memory.now c.args.calls.now = cc in
+    let held : memory_of c.loop-made.day ≡ memory_after_all g.R.Sheets.decoded (empty_day c.args.memory.now) c.args.memory.now c.args.calls.now = cc in
     record {
-      promise = promised g.C.Curve.ground g.C.Curve.steps g.met.C.Curve.rising _ _ _ (rw (whole, opened) at c.loop-call.invariant.3);
+      promise = promised g.C.Curve.ground g.C.Curve.steps g.R.Sheets.decoded g.met.C.Curve.rising g.met.R.Sheets.proper _ _ _ (rw (whole, opened) at c.loop-made.invariant.2);
       memory = rw (sym held) (search rules);
     }

@@ -1,19 +1,12 @@
-use Rattle.std.proofs.Common.{map, is_some, vec_items, sym, ap, ◌∙◌}
-use Rattle.script.specs.Entries.{plain_call}
-use Rattle.script.proofs.Makeable.{calls_more, calls_skip, calls_done}
+use Rattle.std.proofs.Common.{is_none, rules, tests}
+use Rattle.std.proofs.lemmas.Iterator.{YieldsList-from_slice, YieldsList-from_map_by}
+use Rattle.std.proofs.lemmas.Iterator.Consumers.{YieldsList-at, YieldsList-from_filter, map_from_collect}
+use Rattle.script.specs.Entries.{plain_call, entry_call, entry_fault}
 use Rattle.script.proofs.report.calls_of.Goals as goal
 
-pub loop-item-preserved-then-is_some : goal.loop-item-preserved-then-is_some
-loop-item-preserved-then-is_some c =
-    let found = ap is_some (sym c.fault.ensures) ∙ sym c.is_some.ensures ∙ c.if-is_some.true in
-    calls_skip c.args.entries.now c.loop-item.item-index c.item-item.result c.loop-item-test.true c.item-item.is (map plain_call (vec_items c.loop-item.calls)) found
-    ∙ c.loop-item.invariant
-
-pub loop-item-preserved : goal.loop-item-preserved
-loop-item-preserved c =
-    let found = ap is_some (sym c.fault.ensures) ∙ sym c.is_some.ensures ∙ c.if-is_some.false in
-    calls_more c.args.entries.now c.loop-item.item-index c.item-item.result c.loop-item-test.true c.item-item.is (vec_items c.loop-item.calls) (vec_items c.push.new.self) c.call.result found c.call.ensures c.in_ok-push.ensures.items
-    ∙ c.loop-item.invariant
-
 pub returns : goal.returns
-returns c = calls_done c.args.entries.now c.loop-item.item-index (map plain_call (vec_items c.loop-item.calls)) c.loop-item-test.false c.loop-item.invariant
+returns c =
+    map_from_collect _ c.collect.ensures.ran
+    (YieldsList-from_map_by _ plain_call entry_call
+    (YieldsList-at c.map.ensures.source (YieldsList-from_filter _ (λ e. is_none (entry_fault e)) (YieldsList-from_slice c.args.entries.now cc) c.filter.ensures.closure (λ x b q k. search (rules, tests))))
+    c.map.ensures.closure (λ x r q k. search (rules, tests)))

@@ -1,4 +1,0 @@
-pub mod Planned
-pub mod Promised
-pub mod Runs
-pub mod Tellings

@@ -1,2 +1,0 @@
-pub mod PlainRun
-pub mod Promise

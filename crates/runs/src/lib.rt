@@ -1,5 +1,0 @@
-// Any run of calls on a day, sheets among them, made anew from the start.
-#![tactic(auto)]
-
-pub mod call;
-pub mod replay;
