@@ -21,7 +21,7 @@ use crate::fault::CurveFault;
 use crate::knees::Knees;
 use crate::square::Square;
 
-#[derive(Clone, Copy)]
+#[derive(Clone, Copy, PartialEq, Eq, Debug)]
 pub enum Written {
     Square {
         weight: u32,

@@ -1,6 +1,6 @@
 // Opening a day, and its edits.
 use crate::holding::refused;
-use crate::making::{band, day_of, same, slot, square, squares, wide};
+use crate::making::{band, day_of, slot, square, squares, wide};
 use curve::written::Written;
 use day::day::Day;
 use slots::slot::Slot;
@@ -44,7 +44,7 @@ fn the_widest_numbers_are_accepted(rt: HostRuntime) -> Result<(), Fail> {
     ];
     let mut memory = [wide(curve, 4); 4];
     let mut day = day_of(&mut memory, &accepted)?;
-    assert!(rt; same(day.slots(), &accepted));
+    assert_eq!(rt; day.slots(), accepted.as_slice());
     for one in &accepted {
         day.replace(1, *one)?;
         assert_eq!(rt; day.slots().len(), 4);
@@ -60,12 +60,12 @@ fn is_refused(rt: &impl Abort, one: Slot<Written>, number: u8) -> Result<(), Fai
         let mut day = day_of(&mut memory, &[first, second])?;
         refused(rt, day.add(one), number, None)?;
         refused(rt, day.replace(1, one), number, None)?;
-        assert!(rt; same(day.slots(), &[first, second]));
+        assert_eq!(rt; day.slots(), [first, second].as_slice());
         day.add(third)?;
         refused(rt, day.add(one), number, None)?;
-        assert!(rt; same(day.slots(), &[first, second, third]));
+        assert_eq!(rt; day.slots(), [first, second, third].as_slice());
     }
-    assert!(rt; same(&memory, &[first, second, third]));
+    assert_eq!(rt; memory, [first, second, third]);
     Ok(())
 }
 
@@ -97,7 +97,7 @@ fn a_slot_that_is_not_there_is_refused_first(rt: HostRuntime) -> Result<(), Fail
             None,
         )?;
         refused(&rt, day.replace(2, wide(square(1, 10), u32::MAX)), 13, None)?;
-        assert!(rt; same(day.slots(), &[first, second]));
+        assert_eq!(rt; day.slots(), [first, second].as_slice());
     }
     {
         let mut empty = Day::open(&mut memory);
@@ -105,7 +105,7 @@ fn a_slot_that_is_not_there_is_refused_first(rt: HostRuntime) -> Result<(), Fail
         refused(&rt, empty.replace(0, good), 13, None)?;
         assert_eq!(rt; empty.slots().len(), 0);
     }
-    assert!(rt; same(&memory, &[first, second, third]));
+    assert_eq!(rt; memory, [first, second, third]);
     Ok(())
 }
 
@@ -117,11 +117,11 @@ fn an_edit_writes_one_slot(rt: HostRuntime) -> Result<(), Fail> {
     {
         let mut day = day_of(&mut memory, &[first, second])?;
         day.replace(0, new)?;
-        assert!(rt; same(day.slots(), &[new, second]));
+        assert_eq!(rt; day.slots(), [new, second].as_slice());
         day.add(new)?;
-        assert!(rt; same(day.slots(), &[new, second, new]));
+        assert_eq!(rt; day.slots(), [new, second, new].as_slice());
     }
-    assert!(rt; same(&memory, &[new, second, new, first]));
+    assert_eq!(rt; memory, [new, second, new, first]);
     Ok(())
 }
 
@@ -133,13 +133,13 @@ fn a_drop_leaves_the_memory(rt: HostRuntime) -> Result<(), Fail> {
     {
         let mut day = day_of(&mut memory, &[first, second, new])?;
         day.drop()?;
-        assert!(rt; same(day.slots(), &[first, second]));
+        assert_eq!(rt; day.slots(), [first, second].as_slice());
         day.drop()?;
-        assert!(rt; same(day.slots(), &[first]));
+        assert_eq!(rt; day.slots(), [first].as_slice());
         day.drop()?;
         assert_eq!(rt; day.slots().len(), 0);
         refused(&rt, day.drop(), 13, None)?;
     }
-    assert!(rt; same(&memory, &[first, second, new, third]));
+    assert_eq!(rt; memory, [first, second, new, third]);
     Ok(())
 }

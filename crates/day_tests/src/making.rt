@@ -1,5 +1,4 @@
-// What the tests share: slots in few words, days of slots, and whether two runs of slots are the same.
-use curve::Curve;
+// What the tests share: slots in few words, and days of slots.
 use curve::limits::TOP;
 use curve::written::Written;
 use day::day::Day;
@@ -59,20 +58,6 @@ pub(crate) fn day_of<'m, C: Copy>(
         day.add(*slot)?;
     }
     Ok(day)
-}
-
-fn alike(a: &Slot<Written>, b: &Slot<Written>) -> bool {
-    a.low == b.low
-        && a.high == b.high
-        && a.up == b.up
-        && a.down == b.down
-        && a.curve.ground() == b.curve.ground()
-        && a.curve.step(0) == b.curve.step(0)
-}
-
-// Whether two runs of slots have the same bounds and tolls, and curves that begin alike.
-pub(crate) fn same(a: &[Slot<Written>], b: &[Slot<Written>]) -> bool {
-    a.len() == b.len() && a.iter().zip(b.iter()).all(|(one, other)| alike(one, other))
 }
 
 pub(crate) fn all_are<T: PartialEq>(items: &[T], value: &T) -> bool {

@@ -1,7 +1,6 @@
 // Replays a journal of calls from standard input, and prints a line for each call.
 #![tactic(auto)]
 
-use anyhow::anyhow;
 use curve::written::Written;
 use replay::replay::replay_written;
 use script::parse::parse;
@@ -12,22 +11,9 @@ use std::alloc::{AllocError, Global};
 use std::io;
 use std::process::ExitCode;
 
-fn blank_slot() -> Slot<Written> {
-    Slot {
-        curve: Written::Square {
-            weight: 1,
-            target: 0,
-        },
-        low: 0,
-        high: 0,
-        up: 0,
-        down: 0,
-    }
-}
-
 // More than the largest day holds would never be used.
 fn slot_memory(heap: Global, slots: usize) -> Result<Vec<Slot<Written>>, AllocError> {
-    vec![in heap; blank_slot(); slots.min(MOST_SLOTS)]
+    vec![in heap; Slot::default(); slots.min(MOST_SLOTS)]
 }
 
 fn run(rt: &HostRuntime) -> anyhow::Result<()> {
@@ -36,9 +22,7 @@ fn run(rt: &HostRuntime) -> anyhow::Result<()> {
     let script = parse(heap, text.as_str())?;
     let calls = calls_of(heap, &script.entries)?;
     let mut memory = slot_memory(heap, script.slots)?;
-    let Ok(moments) = replay_written(heap, &mut memory, &calls) else {
-        return Err(anyhow!("no memory"));
-    };
+    let moments = replay_written(heap, &mut memory, &calls)?;
     rt.print(report(heap, &script.entries, &moments)?)?;
     Ok(())
 }

@@ -1,6 +1,10 @@
 // The calls that a run is made of, and the moment that each makes.
+ghost use Rattle.std.specs.Prelude.{Some, codes};
+
 use crate::answer::{Answer, CallFault};
 use slots::slot::Slot;
+use std::error::Error;
+use std::fmt;
 
 // The lengths of the buffers that are lent for a plan.
 #[derive(Clone, Copy)]
@@ -34,3 +38,13 @@ pub struct Moment<C> {
 pub struct Unfinished {
     pub made: usize,
 }
+
+impl fmt::Display for Unfinished {
+    ghost output = { λ _. Some (codes "no memory") };
+
+    fn fmt<W: fmt::Write>(&self, f: &mut fmt::Formatter<W>) -> fmt::Result {
+        write!(f, "no memory")
+    }
+}
+
+impl Error for Unfinished {}

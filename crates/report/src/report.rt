@@ -32,27 +32,12 @@ pub fn plan_report<C: Curve + Copy>(heap: Global, day: &Day<'_, C>) -> Result<St
     Ok(text)
 }
 
-// A slot for memory that no day has written yet.
-fn blank() -> Slot<Written> {
-    let curve = Written::Square {
-        weight: 1,
-        target: 0,
-    };
-    Slot {
-        curve,
-        low: 0,
-        high: 0,
-        up: 0,
-        down: 0,
-    }
-}
-
 // What is said of a sheet: the text of its plan, or of its refusal.
 pub fn report_on(heap: Global, sheet: &[u8]) -> Result<Result<String, String>, AllocError>
     ensures text { IfOk result (λ r. said r ≡ sheet_text (decoded most_slots sheet.now)) }
     ensures refused { IfOk result (λ r. is_err r ≡ is_refused (decoded most_slots sheet.now)) }
 {
-    let mut memory = [blank(); MOST_SLOTS];
+    let mut memory = [Slot::default(); MOST_SLOTS];
     let mut day = Day::open(&mut memory);
     if let Err(fault) = read(&mut day, sheet) {
         return Ok(Err(format!(in heap; "{fault}\n")?));

@@ -7,7 +7,7 @@ use crate::limits::TOLL_LIMIT;
 use crate::refusal::Refusal;
 use curve::limits::TOP;
 
-#[derive(Clone, Copy, Default)]
+#[derive(Clone, Copy, Default, PartialEq, Eq, Debug)]
 pub struct Slot<C> {
     pub curve: C,
     pub low: u16,
