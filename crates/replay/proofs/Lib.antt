@@ -2,4 +2,3 @@ pub mod Mapped
 pub mod Planned
 pub mod Promised
 pub mod Runs
-pub mod Tellings

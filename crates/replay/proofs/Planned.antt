@@ -1,5 +1,5 @@
 -- What is answered to a plan: the places of the day's slots in the buffers of levels and leans.
-use Rattle.std.proofs.Common.{◌≡◌, ℕ, suc, ◌<◌, true, List, length, take, drop, ℤ, ◌≤ℤ◌, Some, None, Ok, Err, Option, sym, refl, ap, ◌∙◌, subst, arith}
+use Rattle.std.proofs.Common.{◌≡◌, ℕ, suc, ◌<◌, true, List, length, take, drop, ℤ, ◌≤ℤ◌, Some, None, Ok, Option, sym, refl, ap, ◌∙◌, subst}
 use Rattle.std.proofs.lemmas.List.{take_at, length-map}
 use Rattle.curve.specs.Limits.{last_step}
 use Rattle.optimum.specs.Coldest.{plan}
@@ -10,7 +10,7 @@ use Rattle.day.specs.PlainDay.{PlainDay}
 use Rattle.replay.specs.PlainRun as run
 use Rattle.replay.specs.PlainRun.{terms, plan_told, unless_refused}
 use Rattle.planner.specs.Planning.{plan_refusal, planned, Leaned}
-use Rattle.slots.specs.Refusals.{refusal_number, refusal_slot, told}
+use Rattle.slots.specs.Refusals.{told}
 use Rattle.slots.specs.Slots.{all_proper}
 use Rattle.replay.specs.declared.call.Buffers.{Buffers}
 use Rattle.slots.specs.declared.refusal.Refusal.{Refusal}
@@ -19,12 +19,7 @@ use Rattle.planner.proofs.Convexity.{plan_each}
 -- where a call was answered, there was no refusal
 accepted : {X : Type 0} (refusal : Option Refusal) (x y : X) → Ok x ≡ told refusal y → (refusal ≡ None) × (x ≡ y)
 accepted None x y e = (refl, cc)
-accepted (Some refusal) x y e = let z : ◌≡◌ {A = ℕ} 0 1 = cc in absurd (omega arith)
-
--- and where it was refused, that was the refusal
-refused_by : {X : Type 0} (refusal : Option Refusal) (e : Refusal) (y : X) → Err e ≡ told refusal y → refusal ≡ Some e
-refused_by None e y p = let z : ◌≡◌ {A = ℕ} 0 1 = cc in absurd (omega arith)
-refused_by (Some refusal) e y p = cc
+accepted (Some refusal) x y e = absurd cc
 
 module _ {C : Type 0} (ground : C → ℤ) (steps : C → ℕ → ℤ) (d : PlainDay C) where
   -- the terms of the day, its plan and how many slots it has
@@ -44,12 +39,6 @@ module _ {C : Type 0} (ground : C → ℤ) (steps : C → ℕ → ℤ) (d : Plai
   -- what the plain day tells by that refusal
   telling : (buffers : Buffers) (refusal : Option Refusal) → refusal_in buffers ≡ refusal → plan_told ground steps d buffers ≡ unless_refused refusal (run.planned (price None ts best) best)
   telling buffers refusal = ap (λ (r : Option Refusal). unless_refused r (run.planned (price None ts best) best))
-
-  -- a plan that was refused is told as the plain day tells it
-  pub plan_refused :
-      (buffers : Buffers) (refusal : Option Refusal) (e : Refusal) → refusal ≡ refusal_in buffers → Err e ≡ told refusal (price None ts best) →
-      run.refused (refusal_number e) (refusal_slot e) ≡ plan_told ground steps d buffers
-  plan_refused buffers refusal e same refused = sym (telling buffers (Some e) (sym same ∙ refused_by refusal e (price None ts best) refused))
 
   module _ (rising : (c : C) (v : ℕ) → v < last_step → steps c v ≤ℤ steps c (suc v)) (proper : all_proper d.slots ≡ true) where
     -- the first levels in the buffer are those of the plan

@@ -1,4 +1,4 @@
-use Rattle.std.proofs.Common.{◌≡◌, ℕ, ◌+◌, ◌<◌, List, [], ◌∷◌, ◌++◌, length, get_or, take, sym, refl, ap, ◌∙◌}
+use Rattle.std.proofs.Common.{◌≡◌, true, ℕ, ◌+◌, ◌<◌, List, [], ◌∷◌, ◌++◌, length, get_or, take, sym, refl, ap, ◌∙◌}
 use Rattle.std.proofs.lemmas.List.{flat_map_more, take_more, take_all}
 use Rattle.std.proofs.Output.{has_written_append, has_written_of_eq}
 use Rattle.replay.specs.Telling.{spaced}
@@ -12,7 +12,7 @@ pub loop-number-preserved : goal.loop-number-preserved
 loop-number-preserved g c = λ write shows plain.
     let so_far = c.loop-number.invariant write shows plain in
     let wrote = rw (shows c.number-item.result) at c.in_ok-write.ensures.writes in
-    has_written_of_eq _ _ _ _ _ (spaced_more write c.args.numbers.now c.loop-number.number-index c.number-item.result c.loop-number-test.true c.number-item.is) (has_written_append _ _ _ _ _ _ so_far (wrote so_far.plain refl))
+    has_written_of_eq _ _ _ _ _ (spaced_more write c.args.numbers.now c.loop-number.number-index c.number-item.result c.loop-number-test.true c.number-item.is) (has_written_append _ _ _ _ _ _ so_far (wrote so_far.plain (refl {a = true})))
 
 pub returns : goal.returns
 returns g c = λ write shows plain ok.

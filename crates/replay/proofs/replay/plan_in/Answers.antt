@@ -1,10 +1,9 @@
 use Rattle.std.proofs.Common.{◌≡◌, length, take, vec_len, ap, ◌∙◌, ap₂, w64, SFits, rules}
 use Rattle.std.proofs.lemmas.List.{length-take-le, with_items_is}
 use Rattle.std.proofs.lemmas.Int.{to_z-of_z}
-use Rattle.std.proofs.lemmas.Result.{err_from_is_err_and}
 use Rattle.planner.specs.Planning.{plan_refusal}
 use Rattle.day.specs.View.{plain}
-use Rattle.replay.proofs.Planned.{plan_answered, plan_refused}
+use Rattle.replay.proofs.Planned.{plan_answered}
 use Rattle.replay.proofs.replay.plan_in.Given as given
 use Rattle.replay.proofs.replay.plan_in.Goals as goal
 use Rattle.replay.proofs.replay.plan_in.Goals.{After-plan}
@@ -33,9 +32,3 @@ returns g c =
     let made = plan_answered g.C.Curve.ground g.C.Curve.steps (plain day) g.met.C.Curve.rising day.proper (record { levels = vec_len c.args.levels; leans = vec_len c.args.leans; table = vec_len c.args.table; marks = vec_len c.args.marks }) _ c.in_ok-cost.cost _ _ _ _ _ _ asked answered.answer answered.levels answered.leans levels leans in
     let fits : SFits w64 c.in_ok-cost.cost = search rules in
     record { answer = rw (to_z-of_z w64 c.in_ok-cost.cost fits) made.0; leaning = made.1 }
-
-pub returns-in_err-cost : goal.returns-in_err-cost
-returns-in_err-cost g c =
-    let asked = as_asked g (goal.at.returns-in_err-cost g c).After-plan in
-    let p = err_from_is_err_and c.from_residual.result c.from_residual.ensures.1 in
-    rw (p.1, p.2) (record { answer = plan_refused g.C.Curve.ground g.C.Curve.steps (plain c.args.day.now) (record { levels = vec_len c.args.levels; leans = vec_len c.args.leans; table = vec_len c.args.table; marks = vec_len c.args.marks }) _ c.in_err-cost.field-0.0 asked c.in_err-cost.ensures.answer; leaning = tt })
