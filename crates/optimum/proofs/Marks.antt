@@ -1,11 +1,19 @@
 -- The sweep as a program makes it: the thresholds of each slot are stored, and the levels are found from them alone.
-use Rattle.std.proofs.Common.{◌≡◌, ℕ, ◌<◌, ◌≤◌, List, [], ◌∷◌, get_or, ℤ, pos, refl, ap}
+use Rattle.std.proofs.Common.{◌≡◌, ℕ, ◌+◌, ◌<◌, ◌≤◌, List, [], ◌∷◌, get_or, ℤ, pos, neg_ℤ, ◌≤ℤ◌, refl, ap}
 use Rattle.optimum.specs.Plans.{Terms}
 use Rattle.optimum.proofs.Sweep.{first_level, held, walk, next_message, first_threshold, second_threshold, level_before}
 
 -- a table holds a message at the levels from low up to high
 abbrev pub Between : ℕ → ℕ → List ℤ → (ℕ → ℤ) → Type 0
 Between low high table message = (v : ℕ) → low ≤ v → v < high → get_or table v (pos 0) ≡ message v
+
+-- there its numbers are no larger than n
+abbrev pub Small : ℕ → ℕ → ℕ → List ℤ → Type 0
+Small n low high table = (v : ℕ) → low ≤ v → v < high → (neg_ℤ (pos n) ≤ℤ get_or table v (pos 0)) × (get_or table v (pos 0) ≤ℤ pos n)
+
+-- there they do not fall
+abbrev pub Rising : ℕ → ℕ → List ℤ → Type 0
+Rising low high table = (v : ℕ) → low ≤ v → v + 1 < high → get_or table v (pos 0) ≤ℤ get_or table (v + 1) (pos 0)
 
 -- a table holds the message to the first of some slots, where its bounds leave a step open
 abbrev pub Holds : List Terms → List ℤ → (ℕ → ℤ) → Type 0

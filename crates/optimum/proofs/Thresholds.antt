@@ -27,7 +27,7 @@ first_later {f} {bound} {low} {high} {at} less later = record { from = omega ari
     under v a b = elim (dec_lt low v) [ yes h ↦ later.under v h b | no h ↦ let here : v ≡ low = omega arith in rw here less ]
 
 -- the search for the first level finds it
-first_from_first : (f : ℕ → ℤ) (bound : ℤ) (low n high : ℕ) → low + n ≡ high → First f bound low high (first_from f bound low n)
+pub first_from_first : (f : ℕ → ℤ) (bound : ℤ) (low n high : ℕ) → low + n ≡ high → First f bound low high (first_from f bound low n)
 unfolding first_from
 first_from_first f bound low zero high e = first_here f bound low high (omega arith) (λ more. absurd (omega arith))
 first_from_first f bound low (suc n) high e = go (le_z bound (f low)) refl (first_from_first f bound (suc low) n high (omega arith))

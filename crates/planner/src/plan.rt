@@ -1,13 +1,11 @@
 // The plan of a day: of the cheapest plans, the coldest.
-ghost use Rattle.std.specs.Prelude.{◌≡◌, ◌*◌, ◌≤◌, true, ◌++◌, length, take, drop, None, Ok};
+ghost use Rattle.std.specs.Prelude.{◌≡◌, length, None, Ok};
 ghost use Rattle.optimum.specs.Coldest.{plan};
 ghost use Rattle.optimum.specs.Leans.{Obeys};
 ghost use Rattle.optimum.specs.Plans.{price};
-ghost use Rattle.slots.specs.Limits.{most_slots, table_length};
 ghost use Rattle.slots.specs.SlotTerms.{day_terms};
 ghost use Rattle.planner.specs.Planning.{short_for, planned, Leaned, Spent};
 ghost use Rattle.slots.specs.Refusals.{told};
-ghost use Rattle.slots.specs.Slots.{all_proper};
 
 use crate::leans::{lean_backward, lean_forward};
 use crate::sweep::sweep;

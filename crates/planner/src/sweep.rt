@@ -1,35 +1,32 @@
 // The sweep: a table of growths goes from the first slot to the last, and leaves two levels a slot.
-ghost use Rattle.std.specs.Prelude.{◌≡◌, ℕ, ◌-◌, ◌<◌, ◌≤◌, true, ◌&&◌, ltb, [], ◌∷◌, length, get_or, ℤ, pos, ◌+ℤ◌, neg_ℤ, ◌≤ℤ◌, if◌then◌else◌, nat_le, nat_lt, slice_index_or};
+ghost use Rattle.std.specs.Prelude.{◌≡◌, ℕ, ◌-◌, ◌<◌, ◌≤◌, true, ◌&&◌, ltb, [], ◌∷◌, length, get_or, ℤ, pos, ◌+ℤ◌, neg_ℤ, if◌then◌else◌, nat_le, nat_lt, slice_index_or};
 ghost use Rattle.std.specs.Int.{int_max, int_min};
 ghost use Rattle.curve.specs.Limits.{last_step};
-ghost use Rattle.optimum.proofs.Marks.{Between, Holds, marks as marks_of};
-ghost use Rattle.optimum.proofs.Sweep.{joined, first_from, threshold, passed, next_up, next_down};
-ghost use Rattle.slots.specs.Limits.{most_slots, toll_limit, table_length};
+ghost use Rattle.optimum.proofs.Marks.{Between, Small, Rising, marks as marks_of};
+ghost use Rattle.optimum.proofs.Sweep.{joined, first_from, threshold};
+ghost use Rattle.slots.specs.Limits.{toll_limit, table_length};
 ghost use Rattle.slots.specs.SlotTerms.{slot_terms, day_terms};
-ghost use Rattle.slots.specs.Slots.{proper, all_proper};
+ghost use Rattle.slots.specs.Slots.{proper};
 
 use curve::Curve;
 use slots::limits::TABLE_LENGTH;
 use slots::list::Slots;
 use slots::slot::Slot;
 
-// The first of the levels from low to high at which the table is at least the bound, and high where there is none.
+// The first of the levels from low to high at which the table, which does not fall there, is at least the bound, and high where there is none.
 fn first_from(table: &[i64; TABLE_LENGTH], bound: i64, low: u16, high: u16) -> u16
-    requires { (low ≤ high) × (high ≤ table_length) }
+    requires inside { (low ≤ high) × (high ≤ table_length) }
+    requires rising { Rising low high table.now }
     ensures { result ≡ first_from (λ v. get_or table.now v (pos 0)) bound low (high - low) }
 {
-    for level in low..high {
-        if table[level as usize] >= bound {
-            return level;
-        }
-    }
-    high
+    let growths = &table[low as usize..high as usize];
+    low + growths.partition_point(|growth| *growth < bound) as u16
 }
 
 // Adds the steps of a slot's curve to the table, between its bounds.
 fn join<C: Curve>(slot: &Slot<C>, table: &mut [i64; TABLE_LENGTH])
     requires proper { proper slot.now ≡ true }
-    requires small { (v : ℕ) → slot.now.low ≤ v → v < slot.now.high → (neg_ℤ (pos toll_limit) ≤ℤ slice_index_or table.old v (pos 0)) × (slice_index_or table.old v (pos 0) ≤ℤ pos toll_limit) }
+    requires small { Small toll_limit slot.now.low slot.now.high table.old }
     ensures { (v : ℕ) → v ≤ last_step → slice_index_or table.new v (pos 0) ≡ (if nat_le slot.now.low v && nat_lt v slot.now.high then slice_index_or table.old v (pos 0) +ℤ C.Curve.steps slot.now.curve v else slice_index_or table.old v (pos 0)) }
 {
     for level in slot.low..slot.high {
@@ -45,7 +42,8 @@ fn sweep_slot<C: Curve>(
     table: &mut [i64; TABLE_LENGTH],
 ) -> [u16; 2]
     requires proper { proper slot.now ≡ true }
-    requires small { (v : ℕ) → slot.now.low ≤ v → v < slot.now.high → (neg_ℤ (pos toll_limit) ≤ℤ slice_index_or table.old v (pos 0)) × (slice_index_or table.old v (pos 0) ≤ℤ pos toll_limit) }
+    requires small { Small toll_limit slot.now.low slot.now.high table.old }
+    requires rising { Rising slot.now.low slot.now.high table.old }
     ensures levels { (message : ℕ → ℤ) → Between slot.now.low slot.now.high table.old message → result ≡ threshold message (slot_terms C.Curve.ground C.Curve.steps slot.now) (neg_ℤ (pos down)) ∷ (threshold message (slot_terms C.Curve.ground C.Curve.steps slot.now) (pos up) ∷ []) }
     ensures after { (message : ℕ → ℤ) → Between slot.now.low slot.now.high table.old message → Between slot.now.low slot.now.high table.new (joined message (slot_terms C.Curve.ground C.Curve.steps slot.now)) }
 {

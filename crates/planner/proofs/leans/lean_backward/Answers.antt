@@ -1,9 +1,8 @@
-use Rattle.std.proofs.Common.{◌≡◌, length, get_or, pos, inl, inr, arith, rules, w64, SFits}
-use native.Mathlib.Decide.{dec_lt}
+use Rattle.std.proofs.Common.{◌≡◌, length, get_or, pos, arith, rules, w64, SFits}
 use Rattle.std.proofs.lemmas.Int.{ints, to_z-of_z}
 use Rattle.std.specs.Iterator.Adapters.{enumerate_source, rev_source, zip_first, zip_second}
 use Rattle.std.specs.Slice.Iter.{iter_rest}
-use Rattle.planner.proofs.BackwardPass.{made_none, made_all, still_each, slot_proper, small_lean, next_small, made_more}
+use Rattle.planner.proofs.BackwardPass.{made_none, still_each, slot_proper, small_lean, next_small, made_more}
 use Rattle.planner.proofs.leans.lean_backward.Goals as goal
 
 pub loop-i-init : goal.loop-i-init
@@ -46,17 +45,3 @@ loop-i-preserved g c =
     let fits : SFits w64 (get_or c.loop-i.leans (length ss) (pos 0)) = search rules in
     let made = rw (here, to_z-of_z w64 (get_or c.loop-i.leans (length ss) (pos 0)) fits) at c.backward_lean-next.ensures in
     (omega arith, rw here (made_more _ _ m ss c.in-Some.slot.now xs c.in-Some.level.now slots levels c.requires.small c.requires.lean_each g.met.C.Curve.bounded _ (omega arith) (omega (arith, ints))))
-
-pub returns : goal.returns
-returns g c =
-    let m = c.loop-i.invariant.1 in
-    let each = m.each in
-    let left = enumerate_source (rev_source c.loop-i.i-iterator) in
-    let turn = c.in-None.ensures.steps.1 in
-    let end : length (iter_rest (zip_first left)) ≡ 0 =
-    elim (dec_lt 0 (length (iter_rest (zip_first left)))) [
-      | yes some ↦ elim (turn.1 (omega arith)) [ inl none ↦ (none.3 (omega arith)).0 | inr none ↦ let over = (none.3 (omega arith)).0 in omega arith ]
-      | no none ↦ omega arith
-    ]
-    in
-    made_all _ _ m end

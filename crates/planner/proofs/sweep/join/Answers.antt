@@ -1,13 +1,10 @@
-use Rattle.std.proofs.Common.{◌≡◌, ◌≤◌, arith}
+use Rattle.std.proofs.Common.{◌≤◌, arith}
 use native.Mathlib.Nat.{min-eq_left}
 use Rattle.std.proofs.lemmas.Int.{ints}
 use Rattle.std.proofs.lemmas.Bool.Decides.{nat_tests}
 use Rattle.curve.specs.Limits.{last_step}
-use Rattle.planner.proofs.Tables.{filled_none, filled_next, filled_more}
+use Rattle.planner.proofs.Tables.{filled_next, filled_more}
 use Rattle.planner.proofs.sweep.join.Goals as goal
-
-pub loop-level-init : goal.loop-level-init
-loop-level-init g c = filled_none (omega arith)
 
 pub overflow_add-table : goal.overflow_add-table
 overflow_add-table g c =
@@ -27,8 +24,3 @@ loop-level-preserved g c =
     let asked = rw (min-eq_left below) at c.step.ensures in
     let fits = overflow_add-table g c in
     filled_more c.loop-level.invariant (omega arith) below (omega (arith, ints))
-
-pub returns : goal.returns
-returns g c =
-    let end : c.loop-level.level ≡ c.args.slot.now.high = grind (arith, nat_tests) in
-    rw end at c.loop-level.invariant.at

@@ -3,12 +3,9 @@ use Rattle.std.specs.Int.{int_max, int_min}
 use Rattle.std.proofs.lemmas.Int.{ints, clamps}
 use Rattle.std.proofs.lemmas.Bool.Decides.{nat_tests}
 use Rattle.curve.specs.Limits.{last_step}
-use Rattle.planner.proofs.Tables.{filled_none, filled_next, filled_more}
+use Rattle.planner.proofs.Tables.{filled_next, filled_more}
 use Rattle.planner.proofs.sweep.pass_on.Goals as goal
 use Rattle.planner.proofs.sweep.pass_on.Goals.{then-level-slot, else-level-slot+then-level-slot-2, else-level-slot+else-level-slot-2}
-
-pub loop-level-init : goal.loop-level-init
-loop-level-init g c = filled_none (omega arith)
 
 pub loop-level-preserved : goal.loop-level-preserved
 loop-level-preserved g c =
@@ -25,9 +22,3 @@ loop-level-preserved g c =
       | else-level-slot+else-level-slot-2 w ↦ grind (arith, ints, nat_tests)
     ]
     )
-
-pub returns : goal.returns
-returns g c v from below =
-    let end : c.loop-level.level ≡ c.args.next.now.high = grind (arith, nat_tests) in
-    let all = c.loop-level.invariant.at v (grind (arith, nat_tests)) in
-    grind (arith, nat_tests)

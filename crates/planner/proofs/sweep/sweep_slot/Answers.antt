@@ -5,8 +5,16 @@ use Rattle.curve.specs.Limits.{top}
 use Rattle.optimum.specs.Plans.{Terms}
 use Rattle.optimum.proofs.Sweep.{threshold}
 use Rattle.slots.specs.SlotTerms.{slot_terms}
-use Rattle.planner.proofs.SlotSweeps.{joined_at, threshold_found}
+use Rattle.planner.proofs.SlotSweeps.{joined_at, threshold_found, slot_rising}
 use Rattle.planner.proofs.sweep.sweep_slot.Goals as goal
+
+pub first_from-first-requires-clause-rising : goal.first_from-first-requires-clause-rising
+first_from-first-requires-clause-rising g c =
+    slot_rising g.C.Curve.ground g.C.Curve.steps g.met.C.Curve.rising c.args.slot.now c.requires.proper c.args.table.now c.join.new.table c.join.ensures c.requires.rising
+
+pub first_from-second-requires-clause-rising : goal.first_from-second-requires-clause-rising
+first_from-second-requires-clause-rising g c =
+    slot_rising g.C.Curve.ground g.C.Curve.steps g.met.C.Curve.rising c.args.slot.now c.requires.proper c.args.table.now c.join.new.table c.join.ensures c.requires.rising
 
 pub returns : goal.returns
 returns g c =

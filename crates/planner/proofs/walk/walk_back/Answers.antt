@@ -2,7 +2,7 @@ use Rattle.std.proofs.Common.{◌≡◌, length, arith}
 use Rattle.std.specs.Slice.Iter.{iter_rest}
 use Rattle.std.specs.Iterator.Adapters.{enumerate_source, rev_source}
 use Rattle.optimum.proofs.Sweep.{held}
-use Rattle.planner.proofs.Walks.{walked_none, walked_more, walked_all}
+use Rattle.planner.proofs.Walks.{walked_none, walked_more}
 use Rattle.planner.proofs.walk.walk_back.Goals as goal
 
 pub loop-i-init : goal.loop-i-init
@@ -17,6 +17,3 @@ loop-i-preserved c =
     let walked = c.loop-i.invariant.1 in
     let here : c.in-Some.i ≡ length (iter_rest (enumerate_source (rev_source c.next.new.self))) = omega arith in
     (omega arith, rw here (walked_more walked _ c.in-Some.field-0-1.now _ turn.1.0 (omega arith) (omega arith)))
-
-pub returns : goal.returns
-returns c = walked_all c.loop-i.invariant.1 c.in-None.ensures.steps.1.0
