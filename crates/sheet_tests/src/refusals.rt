@@ -165,7 +165,10 @@ fn longest(heap: Global) -> Result<Vec<u8>, AllocError> {
 fn longest_told(rt: &impl Abort, heap: Global) -> Result<(), Fail> {
     let sheet = longest(heap)?;
     let said = report_on(heap, &sheet)?.ok();
-    let text = said.as_ref().ok_or("the longest sheet is refused")?.as_str();
+    let text = said
+        .as_ref()
+        .ok_or("the longest sheet is refused")?
+        .as_str();
     assert!(rt; text.starts_with("slots 192 cost -960\n0 10 -5 0\n1 10 -5 0\n"));
     assert!(rt; text.ends_with("\n190 10 -5 0\n191 10 -5 0\n"));
     Ok(())
