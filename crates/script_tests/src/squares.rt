@@ -46,9 +46,7 @@ fn told<C: Curve + Copy>(
     calls.push(Call::Price(&[10, 20, 10]))?;
     calls.push(Call::Check(&[12, 16, 12], &[0, 4, -4]))?;
     calls.push(Call::Check(&[12, 16, 13], &[0, 4, -4]))?;
-    let Ok(moments) = replay::<C, NoRecords>(heap, memory, &calls) else {
-        return Err(Fail::new("no memory"));
-    };
+    let moments = replay::<C, NoRecords>(heap, memory, &calls)?;
     assert_eq!(rt; moments.len(), expected.len());
     for (moment, line) in moments.iter().zip(expected) {
         let told = describe(heap, &moment.answer)?;
