@@ -15,14 +15,10 @@ pub(crate) fn refused<T: Drop>(
     number: u8,
     slot: Option<usize>,
 ) -> Result<(), Fail> {
-    match answer {
-        Ok(_) => Err(Fail::new("it was not refused")),
-        Err(refusal) => {
-            assert_eq!(rt; refusal.number(), number);
-            assert_eq!(rt; refusal.slot(), slot);
-            Ok(())
-        }
-    }
+    let refusal = answer.err().ok_or("it was not refused")?;
+    assert_eq!(rt; refusal.number(), number);
+    assert_eq!(rt; refusal.slot(), slot);
+    Ok(())
 }
 
 // Holds the plan of a day to its levels and cost, its leans to the check, and places beyond the day to what they were.

@@ -54,13 +54,6 @@ fn plan<C: Curve + Copy>(
     Ok(plan_in(day, levels, leans, table, marks))
 }
 
-// An edit or a sheet that is not refused is done.
-fn done(_: ()) -> Answer
-    ensures { result ≡ Answer.Done }
-{
-    Answer::Done
-}
-
 // Makes one call on a day; where there is no memory for the buffers of a plan, nothing is done.
 fn make<C: Curve + Copy, R: Sheets<C>>(
     heap: Global,
@@ -75,19 +68,21 @@ fn make<C: Curve + Copy, R: Sheets<C>>(
     ensures answer { IfOk result (λ a. told_by a ≡ plain_answer C.Curve.ground C.Curve.steps R.Sheets.decoded (plain day.old) call.now) }
     ensures leaning { IfOk result (λ a. Leaning (terms C.Curve.ground C.Curve.steps (plain day.old)) a) }
 {
-    match *call {
-        Call::Add(slot) => Ok(day.add(slot).map(done).map_err(Refused)),
-        Call::Replace(place, slot) => Ok(day.replace(place, slot).map(done).map_err(Refused)),
-        Call::Drop => Ok(day.drop().map(done).map_err(Refused)),
-        Call::Sheet(bytes) => Ok(R::read(day, bytes).map(done).map_err(Unread)),
-        Call::Price(levels) => Ok(day.price(levels).map(Answer::Cost).map_err(Refused)),
-        Call::Plan(lengths) => plan(heap, day, lengths),
-        Call::Check(levels, leans) => Ok(
-            day.check(levels, leans)
-                .map(|plan| Answer::Cost(plan.cost()))
-                .map_err(Refused),
-        ),
-    }
+    Ok(match *call {
+        Call::Add(slot) => day.add(slot).map(|()| Answer::Done).map_err(Refused),
+        Call::Replace(place, slot) => day
+            .replace(place, slot)
+            .map(|()| Answer::Done)
+            .map_err(Refused),
+        Call::Drop => day.drop().map(|()| Answer::Done).map_err(Refused),
+        Call::Sheet(bytes) => R::read(day, bytes).map(|()| Answer::Done).map_err(Unread),
+        Call::Price(levels) => day.price(levels).map(Answer::Cost).map_err(Refused),
+        Call::Plan(lengths) => plan(heap, day, lengths)?,
+        Call::Check(levels, leans) => day
+            .check(levels, leans)
+            .map(|plan| Answer::Cost(plan.cost()))
+            .map_err(Refused),
+    })
 }
 
 // Notes an answer with the day's slots.

@@ -39,8 +39,8 @@ pub fn report_on(heap: Global, sheet: &[u8]) -> Result<Result<String, String>, A
 {
     let mut memory = [Slot::default(); MOST_SLOTS];
     let mut day = Day::open(&mut memory);
-    if let Err(fault) = read(&mut day, sheet) {
-        return Ok(Err(format!(in heap; "{fault}\n")?));
-    }
-    Ok(Ok(plan_report(heap, &day)?))
+    Ok(match read(&mut day, sheet) {
+        Ok(()) => Ok(plan_report(heap, &day)?),
+        Err(fault) => Err(format!(in heap; "{fault}\n")?),
+    })
 }

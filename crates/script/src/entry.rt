@@ -34,12 +34,14 @@ impl Entry {
             _ => None,
         }
     }
+}
 
-    // The call that an entry stands for.
-    pub fn call(&self) -> Call<'_, Written>
-        ensures { plain_call result ≡ entry_call self.now }
-    {
-        match self {
+// The call that an entry stands for.
+impl<'e> From<&'e Entry> for Call<'e, Written> {
+    ghost from_gives = { λ entry call. plain_call call ≡ entry_call entry.now };
+
+    fn from(entry: &'e Entry) -> Call<'e, Written> {
+        match entry {
             Entry::Add(slot) => Call::Add(*slot),
             Entry::Replace(place, slot) => Call::Replace(*place, *slot),
             Entry::Drop => Call::Drop,

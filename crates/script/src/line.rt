@@ -168,9 +168,7 @@ fn colon_of(words: &[&str]) -> Option<usize>
 fn check_of(heap: Global, words: &[&str]) -> Result<Entry, LineFault>
     ensures { Says entry_call result (check_of (texts words.now)) }
 {
-    let Some(colon) = colon_of(words) else {
-        return Err(LineFault::NotACall);
-    };
+    let colon = colon_of(words).ok_or(LineFault::NotACall)?;
     let levels = numbers(heap, &words[..colon])?;
     let leans = numbers(heap, &words[colon + 1..])?;
     Ok(Entry::Check(levels, leans))

@@ -29,7 +29,7 @@ pub fn calls_of(heap: Global, entries: &[Entry]) -> Result<Vec<Call<'_, Written>
     entries
         .iter()
         .filter(|item| item.fault().is_none())
-        .map(Entry::call)
+        .map(Call::from)
         .collect(heap)
 }
 

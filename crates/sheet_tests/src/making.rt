@@ -163,7 +163,7 @@ pub(crate) fn put(sheet: &mut Vec<u8>, slots: &[Slot<Written>]) -> Result<(), Al
     Ok(())
 }
 
-// The sheet of slots. Two lists of slots are the same where their sheets are.
+// The sheet of slots.
 pub(crate) fn sheet_of(heap: Global, slots: &[Slot<Written>]) -> Result<Vec<u8>, AllocError> {
     let mut sheet = Vec::new(heap);
     put(&mut sheet, slots)?;

@@ -51,7 +51,7 @@ fn read_over(rt: &impl Abort, heap: Global, sheet: &[u8]) -> Result<Option<Sheet
     let (fault, count) = read_into(&mut memory, sheet)?;
     if fault.is_some() {
         assert_eq!(rt; count, 2);
-        memory_is(rt, heap, &memory, &[], &before)?;
+        assert_eq!(rt; memory, before);
     } else {
         assert!(rt; count <= 6);
         memory_is(rt, heap, &memory, sheet, &before[count..])?;
