@@ -29,13 +29,13 @@ used_same count place xs nought past = by_test (ltb place count) refl
     by_test true test = refl
     by_test false test = sym (past (ltb-false place count test))
 
-next_drop : {X : Type 0} (xs : List X) (place : ℕ) (x : X) (more : List X) → drop place xs ≡ x ∷ more → drop (suc place) xs ≡ more
+pub next_drop : {X : Type 0} (xs : List X) (place : ℕ) (x : X) (more : List X) → drop place xs ≡ x ∷ more → drop (suc place) xs ≡ more
 next_drop [] zero x more e = cc
 next_drop [] (suc place) x more e = cc
 next_drop (y ∷ xs) zero x more e = cc
 next_drop (y ∷ xs) (suc place) x more e = next_drop xs place x more e
 
-first_drop : {X : Type 0} (xs : List X) (place : ℕ) (x : X) (more : List X) (d : X) → drop place xs ≡ x ∷ more → get_or xs place d ≡ x
+pub first_drop : {X : Type 0} (xs : List X) (place : ℕ) (x : X) (more : List X) (d : X) → drop place xs ≡ x ∷ more → get_or xs place d ≡ x
 first_drop [] zero x more d e = cc
 first_drop [] (suc place) x more d e = cc
 first_drop (y ∷ xs) zero x more d e = cc

@@ -14,10 +14,8 @@ impl Fields<'_> {
         ensures left { self.new.left.now ≡ drop N self.old.left.now }
         ensures fewer { length self.new.left.now + N ≡ length self.old.left.now }
     {
-        let (field, left) = self.left.split_at(N);
+        let (field, left) = self.left.split_first_chunk().unwrap();
         self.left = left;
-        let mut bytes = [0; N];
-        bytes.copy_from_slice(field);
-        bytes
+        *field
     }
 }

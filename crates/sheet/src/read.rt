@@ -37,9 +37,9 @@ fn fill(day: &mut Day<'_, Written>, sheet: &[u8])
     ensures lender { day.new.slots.ghost_name ≡ day.old.slots.ghost_name }
 {
     let mut reader = Reader::new(day.room(), sheet);
-    while let Ok(Some(slot)) = reader.next() {
-        // A slot that has been tested is let in.
-        let _ = day.add(slot);
+    // A sheet that has been tested has no fault, and the day lets its slots in.
+    while let Some(slot) = reader.next().unwrap() {
+        day.add(slot).unwrap();
     }
 }
 

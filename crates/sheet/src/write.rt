@@ -14,7 +14,6 @@ ghost use Rattle.sheet.specs.Sheets.{encode, write_refusal, written_over};
 
 use crate::kinds::Kind;
 use crate::writer::Writer;
-use curve::limits::KNEE_LIMIT;
 use curve::written::Written;
 use day::day::Day;
 use slots::refusal::Refusal;
@@ -25,9 +24,9 @@ fn put_knees(writer: &mut Writer, count: u8, levels: &[u16; 6], steps: &[i32; 6]
     requires { writer.old.place + size (knee_fields knee_limit) ≤ length writer.old.out.now }
     ensures { Puts writer.old (packed (knee_fields knee_limit) (knee_values knee_limit 0 count levels.now steps.now)) writer.new }
 {
-    for k in 0..KNEE_LIMIT {
+    for (k, (level, step)) in levels.iter().zip(steps.iter()).enumerate() {
         let (level, step) = if k < count as usize {
-            (levels[k], steps[k])
+            (*level, *step)
         } else {
             (0, 0)
         };
