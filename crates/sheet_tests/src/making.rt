@@ -4,10 +4,6 @@ use curve::written::Written;
 use slots::slot::Slot;
 use std::alloc::{AllocError, Global};
 
-pub(crate) fn square(weight: u32, target: u16) -> Written {
-    Written::Square { weight, target }
-}
-
 // Two knees, of which a count may take more or fewer.
 pub(crate) fn knees(
     ground: i64,
@@ -25,19 +21,15 @@ pub(crate) fn knees(
     }
 }
 
-pub(crate) fn slot(curve: Written, low: u16, high: u16, up: u32, down: u32) -> Slot<Written> {
-    Slot {
-        curve,
-        low,
-        high,
-        up,
-        down,
-    }
-}
-
 // A slot over all levels, with tolls of 4.
 pub(crate) fn wide(curve: Written) -> Slot<Written> {
-    slot(curve, 0, TOP, 4, 4)
+    Slot {
+        curve,
+        low: 0,
+        high: TOP,
+        up: 4,
+        down: 4,
+    }
 }
 
 // The sheet of a slot of each kind.
@@ -57,21 +49,30 @@ pub(crate) fn kinds() -> [Slot<Written>; 3] {
         warm_rate: 0x1516_1718,
     };
     [
-        slot(
-            square(0x0001_0203, 0x0304),
-            0x0102,
-            0x0304,
-            0x0506_0708,
-            0x090a_0b0c,
-        ),
-        slot(band, 0x0001, 0x0203, 0x0d0e_0f10, 0x1112_1314),
-        slot(
-            knees(-1000, -3, 2, [4, 0x0102], [-2, 0x0a0b_0c0d]),
-            0,
-            TOP,
-            0,
-            1_000_000_000,
-        ),
+        Slot {
+            curve: Written::Square {
+                weight: 0x0001_0203,
+                target: 0x0304,
+            },
+            low: 0x0102,
+            high: 0x0304,
+            up: 0x0506_0708,
+            down: 0x090a_0b0c,
+        },
+        Slot {
+            curve: band,
+            low: 0x0001,
+            high: 0x0203,
+            up: 0x0d0e_0f10,
+            down: 0x1112_1314,
+        },
+        Slot {
+            curve: knees(-1000, -3, 2, [4, 0x0102], [-2, 0x0a0b_0c0d]),
+            low: 0,
+            high: TOP,
+            up: 0,
+            down: 1_000_000_000,
+        },
     ]
 }
 
@@ -90,12 +91,18 @@ pub(crate) fn widest() -> [Slot<Written>; 3] {
         levels: [1, 2, 3, 4, 5, 1022],
         steps: [-900_000_000, -1, 0, 1, 899_999_999, 900_000_000],
     };
+    let square = Written::Square {
+        weight: 400_000,
+        target: TOP,
+    };
     let toll = 1_000_000_000;
-    [
-        slot(square(400_000, TOP), 0, 0, toll, toll),
-        slot(band, TOP, TOP, toll, toll),
-        slot(knees, 0, TOP, toll, toll),
-    ]
+    [(square, 0, 0), (band, TOP, TOP), (knees, 0, TOP)].map(|(curve, low, high)| Slot {
+        curve,
+        low,
+        high,
+        up: toll,
+        down: toll,
+    })
 }
 
 fn put_knees(sheet: &mut Vec<u8>, levels: &[u16; 6], steps: &[i32; 6]) -> Result<(), AllocError> {

@@ -1,5 +1,5 @@
 // Reading sheets over a day that has slots.
-use crate::making::{KINDS, kinds, put, sheet_of, square, wide, widest};
+use crate::making::{KINDS, kinds, put, sheet_of, wide, widest};
 use crate::reports::is_refused;
 use curve::written::Written;
 use day::day::Day;
@@ -14,7 +14,17 @@ use std::test::Fail;
 // The memory before a sheet is read: a day of two slots, and four places behind it.
 fn before() -> [Slot<Written>; 6] {
     let [first, second, third] = kinds();
-    [second, first, wide(square(5, 6)), third, first, second]
+    [
+        second,
+        first,
+        wide(Written::Square {
+            weight: 5,
+            target: 6,
+        }),
+        third,
+        first,
+        second,
+    ]
 }
 
 // Reads a sheet over a day of the first two slots of its memory. Answers the fault, and how many slots the day then has.

@@ -1,5 +1,5 @@
 // Every refusal of a sheet, by what is said of it.
-use crate::making::{KINDS, kinds, knees, sheet_of, slot, square, wide};
+use crate::making::{KINDS, kinds, knees, sheet_of, wide};
 use crate::reports::says;
 use curve::limits::TOP;
 use curve::written::Written;
@@ -68,7 +68,18 @@ fn kinds_and_lengths_are_refused(rt: HostRuntime) -> Result<(), Fail> {
 // Holds a curve to be refused, with good bounds and tolls and with bad ones.
 fn curve_refused(rt: &impl Abort, heap: Global, curve: Written, number: u8) -> Result<(), Fail> {
     slot_refused(rt, heap, wide(curve), number)?;
-    slot_refused(rt, heap, slot(curve, 9, 8, TOLL, TOLL), number)
+    slot_refused(
+        rt,
+        heap,
+        Slot {
+            curve,
+            low: 9,
+            high: 8,
+            up: TOLL,
+            down: TOLL,
+        },
+        number,
+    )
 }
 
 #[test]
@@ -81,7 +92,7 @@ fn squares_are_refused(rt: HostRuntime) -> Result<(), Fail> {
         (1, 1024, 2),
         (1, 0xffff, 2),
     ] {
-        curve_refused(&rt, heap, square(weight, target), number)?;
+        curve_refused(&rt, heap, Written::Square { weight, target }, number)?;
     }
     Ok(())
 }
@@ -150,7 +161,18 @@ fn bounds_and_tolls_are_refused(rt: HostRuntime) -> Result<(), Fail> {
             (0, TOP, TOLL, 4, 11),
             (0, TOP, 4, TOLL, 11),
         ] {
-            slot_refused(&rt, heap, slot(one.curve, low, high, up, down), number)?;
+            slot_refused(
+                &rt,
+                heap,
+                Slot {
+                    low,
+                    high,
+                    up,
+                    down,
+                    ..one
+                },
+                number,
+            )?;
         }
     }
     Ok(())
