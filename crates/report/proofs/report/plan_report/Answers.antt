@@ -1,15 +1,11 @@
-use Rattle.std.proofs.Common.{length, take, sym, ap, ◌∙◌, arith, w64, rules}
+use Rattle.std.proofs.Common.{length, take, sym, ap, ◌∙◌, w64, rules}
 use Rattle.std.proofs.lemmas.List.{length-map}
 use Rattle.std.proofs.lemmas.Int.{to_z-of_z}
-use Rattle.std.proofs.lemmas.Bool.Decides.{nat_tests}
 use Rattle.optimum.proofs.Planned.{plan_within}
 use Rattle.planner.proofs.Convexity.{all_convex, all_open}
 use Rattle.slots.specs.SlotTerms.{slot_terms, day_terms}
 use Rattle.report.proofs.PlanTexts.{within_top, text_made}
 use Rattle.report.proofs.report.plan_report.Goals as goal
-
-pub unwrap-plan-requires : goal.unwrap-plan-requires
-unwrap-plan-requires g c = let made = c.checked_plan.ensures in let few = c.args.day.now.few in grind (arith, nat_tests)
 
 pub put_lines-requires : goal.put_lines-requires
 put_lines-requires g c =
