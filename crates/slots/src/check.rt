@@ -55,7 +55,7 @@ impl<'a, C: Curve> Slots<'a, C> {
         if leans.len() != self.list.len() {
             return Err(Refusal::Count);
         }
-        let price = self.price(levels)?;
+        self.admits(levels)?;
         if let Some(slot) = self.first_break(levels, leans, |stand| stand.bounded()) {
             return Err(Refusal::Lean(slot));
         }
@@ -65,6 +65,6 @@ impl<'a, C: Curve> Slots<'a, C> {
         if let Some(slot) = self.first_break(levels, leans, |stand| stand.at_rest()) {
             return Err(Refusal::Rest(slot));
         }
-        Ok(price)
+        Ok(self.total(levels))
     }
 }

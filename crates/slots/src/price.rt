@@ -47,22 +47,40 @@ fn slot_price<C: Curve>(slot: &Slot<C>, before: Option<u16>, level: u16) -> i64
 }
 
 impl<'a, C: Curve> Slots<'a, C> {
-    // The price of a plan: the curves' costs and the tolls.
-    pub fn price(&self, levels: &[u16]) -> Result<i64, Refusal>
-        ensures { result ≡ told (price_refusal (day_terms C.Curve.ground C.Curve.steps self.now.list.now) levels.now) (price None (day_terms C.Curve.ground C.Curve.steps self.now.list.now) levels.now) }
+    // Refuses levels that are no plan: another number of them than of slots, or one that is out of bounds.
+    pub(crate) fn admits(&self, levels: &[u16]) -> Result<(), Refusal>
+        ensures { result ≡ told (price_refusal (day_terms C.Curve.ground C.Curve.steps self.now.list.now) levels.now) tt }
     {
         if levels.len() != self.list.len() {
             return Err(Refusal::Count);
         }
-        let mut total = 0;
-        let mut before = None;
         for (i, (slot, level)) in self.list.iter().zip(levels.iter()).enumerate() {
             if !slot.allows(*level) {
                 return Err(Refusal::Outside(i));
             }
+        }
+        Ok(())
+    }
+
+    // The curves' costs and the tolls of a plan within the bounds.
+    pub(crate) fn total(&self, levels: &[u16]) -> i64
+        requires within { earliest inside (zip (day_terms C.Curve.ground C.Curve.steps self.now.list.now) levels.now) ≡ None }
+        ensures { result ≡ price None (day_terms C.Curve.ground C.Curve.steps self.now.list.now) levels.now }
+    {
+        let mut total = 0;
+        let mut before = None;
+        for (slot, level) in self.list.iter().zip(levels.iter()) {
             total += slot_price(slot, before, *level);
             before = Some(*level);
         }
-        Ok(total)
+        total
+    }
+
+    // The price of a plan.
+    pub fn price(&self, levels: &[u16]) -> Result<i64, Refusal>
+        ensures { result ≡ told (price_refusal (day_terms C.Curve.ground C.Curve.steps self.now.list.now) levels.now) (price None (day_terms C.Curve.ground C.Curve.steps self.now.list.now) levels.now) }
+    {
+        self.admits(levels)?;
+        Ok(self.total(levels))
     }
 }

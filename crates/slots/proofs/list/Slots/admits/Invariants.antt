@@ -1,13 +1,9 @@
-use Rattle.std.proofs.Common.{◌≡◌, true, length, ◌+ℤ◌, None}
+use Rattle.std.proofs.Common.{◌≡◌}
 use Rattle.std.specs.Iterator.Adapters.{enumerate_source, enumerate_count, zip_first, zip_second}
 use Rattle.std.specs.Slice.Iter.{iter_rest}
-use Rattle.optimum.specs.Plans.{price}
-use Rattle.slots.specs.SlotTerms.{day_terms}
-use Rattle.slots.specs.Slots.{all_proper}
 use Rattle.slots.proofs.Earliest.{after}
 use Rattle.slots.proofs.Outside.{outside}
-use Rattle.slots.proofs.Prices.{Room}
-use Rattle.slots.proofs.list.Slots.price.Given as goal
+use Rattle.slots.proofs.list.Slots.admits.Given as goal
 
 abbrev pub invariant-loop-i : goal.invariant-loop-i
 invariant-loop-i g l =
@@ -16,6 +12,3 @@ invariant-loop-i g l =
     (goal.iterator-loop-i g).can_next l.i-iterator
     × (goal.iterator-loop-i g).is_finite l.i-iterator
     × (outside g.C.Curve.ground g.C.Curve.steps l.self.list.now l.levels ≡ after (enumerate_count l.i-iterator) (outside g.C.Curve.ground g.C.Curve.steps slots levels))
-    × (l.total +ℤ price l.before (day_terms g.C.Curve.ground g.C.Curve.steps slots) levels ≡ price None (day_terms g.C.Curve.ground g.C.Curve.steps l.self.list.now) l.levels)
-    × Room l.total (length slots)
-    × (all_proper slots ≡ true)
