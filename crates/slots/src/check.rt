@@ -1,12 +1,12 @@
 // Checking a plan, whoever made it, by leans.
 ghost use Rattle.std.specs.Prelude.{◌≡◌, None};
-ghost use Rattle.std.specs.List.{zip};
+ghost use Rattle.std.specs.List.{zip, AllByRecursion};
 ghost use Rattle.optimum.specs.Leans.{stands};
 ghost use Rattle.optimum.specs.Plans.{price};
 ghost use Rattle.slots.specs.Judging.{earliest, inside, check_refusal};
 ghost use Rattle.slots.specs.Refusals.{told};
 ghost use Rattle.slots.specs.SlotTerms.{day_terms};
-ghost use Rattle.slots.specs.Stands.{Rule, Tries};
+ghost use Rattle.slots.specs.Stands.{Rule, Tries, Triable};
 
 use crate::list::Slots;
 use crate::refusal::Refusal;
@@ -14,7 +14,7 @@ use crate::rules::Stand;
 use curve::Curve;
 
 impl<'a, C: Curve> Slots<'a, C> {
-    // The earliest slot that breaks a rule, in a plan within the bounds.
+    // The earliest slot that breaks a rule, in a plan within the bounds, where the rule can be tried on each slot.
     fn first_break<F: Fn(&Stand<'_, C>) -> bool>(
         &self,
         levels: &[u16],
@@ -22,7 +22,7 @@ impl<'a, C: Curve> Slots<'a, C> {
         keeps: F,
     ) -> Option<usize>
         requires within { earliest inside (zip (day_terms C.Curve.ground C.Curve.steps self.now.list.now) levels.now) ≡ None }
-        requires callable { F.IsAlwaysCallable keeps }
+        requires callable { AllByRecursion (Triable C.Curve.ground C.Curve.steps F.Fn keeps) (stands None (day_terms C.Curve.ground C.Curve.steps self.now.list.now) levels.now leans.now) }
         ensures { (rule : Rule) → Tries C.Curve.ground C.Curve.steps F.Fn keeps rule → result ≡ earliest rule (stands None (day_terms C.Curve.ground C.Curve.steps self.now.list.now) levels.now leans.now) }
     {
         let mut before = None;

@@ -1,5 +1,5 @@
 // The three rules of leans, each as a test of one slot.
-ghost use Rattle.std.specs.Prelude.{◌≡◌, ◌-◌, ◌≤◌, ◌||◌, ◌-ℤ◌, int_le, nat_le};
+ghost use Rattle.std.specs.Prelude.{◌≡◌, ◌-◌, ◌≤◌, true, ◌||◌, ◌-ℤ◌, int_le, nat_le};
 ghost use Rattle.curve.specs.Limits.{top};
 ghost use Rattle.optimum.specs.Leans.{bounded, follows_move, at_rest};
 
@@ -19,7 +19,7 @@ pub(crate) struct Stand<'s, C> {
 }
 
 impl<'s, C: Curve> Stand<'s, C> {
-    ghost use Rattle.slots.specs.Stands.{slot_stand};
+    ghost use Rattle.slots.specs.Stands.{slot_stand, small};
 
     // The first lean is 0, and every later one lies from minus its down toll to its up toll.
     #[tactic(auto, unfolding(optimum::specs::Leans::bounded))]
@@ -46,33 +46,35 @@ impl<'s, C: Curve> Stand<'s, C> {
         }
     }
 
-    // What the next lean gains over the slot's own.
-    fn gain(&self) -> i128
+    // What the next lean gains over the slot's own, once both are known to be small.
+    fn gain(&self) -> i64
+        requires { small (slot_stand C.Curve.ground C.Curve.steps self.now) ≡ true }
         ensures { result ≡ self.now.next -ℤ self.now.lean }
     {
-        i128::from(self.next) - i128::from(self.lean)
+        self.next - self.lean
     }
 
-    // No step up costs less than the gain.
-    fn rests_upward(&self) -> bool
-        ensures { result ≡ (nat_le self.now.slot.now.high self.now.level || int_le (self.now.next -ℤ self.now.lean) (C.Curve.steps self.now.slot.now.curve self.now.level)) }
+    // No step up costs less than it gains.
+    fn rests_upward(&self, gain: i64) -> bool
+        ensures { result ≡ (nat_le self.now.slot.now.high self.now.level || int_le gain (C.Curve.steps self.now.slot.now.curve self.now.level)) }
     {
-        self.level >= self.slot.high || i128::from(self.slot.curve.step(self.level)) >= self.gain()
+        self.level >= self.slot.high || self.slot.curve.step(self.level) >= gain
     }
 
-    // No step down saves more than the gain.
-    fn rests_downward(&self) -> bool
-        ensures { result ≡ (nat_le self.now.level self.now.slot.now.low || int_le (C.Curve.steps self.now.slot.now.curve (self.now.level - 1)) (self.now.next -ℤ self.now.lean)) }
+    // No step down saves more than it loses.
+    fn rests_downward(&self, gain: i64) -> bool
+        ensures { result ≡ (nat_le self.now.level self.now.slot.now.low || int_le (C.Curve.steps self.now.slot.now.curve (self.now.level - 1)) gain) }
     {
-        self.level <= self.slot.low
-            || i128::from(self.slot.curve.step(self.level - 1)) <= self.gain()
+        self.level <= self.slot.low || self.slot.curve.step(self.level - 1) <= gain
     }
 
     // No step up costs less than the next lean gains over its own, and no step down saves more.
     #[tactic(auto, unfolding(optimum::specs::Leans::at_rest))]
     pub(crate) fn at_rest(&self) -> bool
+        requires { small (slot_stand C.Curve.ground C.Curve.steps self.now) ≡ true }
         ensures { result ≡ at_rest (slot_stand C.Curve.ground C.Curve.steps self.now) }
     {
-        self.rests_upward() && self.rests_downward()
+        let gain = self.gain();
+        self.rests_upward(gain) && self.rests_downward(gain)
     }
 }

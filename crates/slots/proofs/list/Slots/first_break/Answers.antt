@@ -1,4 +1,4 @@
-use Rattle.std.proofs.Common.{◌≡◌, ◌+◌, ◌⊎◌, length, get_or, pos, to_z, of_z, w64, Some, inl, inr, sym, ap, ◌∙◌, arith, rules}
+use Rattle.std.proofs.Common.{◌≡◌, ◌+◌, ◌⊎◌, length, get_or, pos, to_z, of_z, w64, Some, inl, inr, refl, sym, ap, ◌∙◌, arith, rules}
 use Rattle.std.proofs.lemmas.Fn.{says_at}
 use Rattle.std.proofs.lemmas.Int.{ints}
 use Rattle.std.proofs.lemmas.Option.{unwrap_or-slice_get}
@@ -9,7 +9,8 @@ use Rattle.optimum.specs.Leans.{next_lean}
 use Rattle.curve.specs.Tests.{and_left, and_right}
 use Rattle.slots.specs.Slots.{proper, all_proper}
 use Rattle.slots.proofs.Outside.{outside_head, outside_tail}
-use Rattle.slots.proofs.Stands.{left_more, next_lean_left, break_more, break_here, break_end}
+use Rattle.slots.specs.Stands.{Triable}
+use Rattle.slots.proofs.Stands.{left_more, next_lean_left, break_more, break_here, break_end, all_parted}
 use Rattle.slots.proofs.list.Slots.first_break.Goals as goal
 
 pub invariant_of-stand : goal.invariant_of-stand
@@ -19,6 +20,18 @@ invariant_of-stand g c =
     let within = outside_head g.C.Curve.ground g.C.Curve.steps c.in-Some.slot.now (iter_rest (zip_first pairs)) c.in-Some.level.now (iter_rest (zip_second pairs)) turn.0.0.0 turn.0.0.1 c.loop-i.invariant.4 in
     let fine = and_left (proper c.in-Some.slot.now) (all_proper (iter_rest (zip_first pairs))) (rw turn.0.0.0 at c.loop-i.invariant.5) in
     record { level_held = grind (arith, nat_tests); bounds_held = grind (arith, nat_tests) }
+
+pub keeps-requires : goal.keeps-requires
+keeps-requires g c =
+    let turn = c.in-Some.ensures.steps in
+    let left = enumerate_source c.next.new.self in
+    let leans = iter_rest (zip_second left) in
+    let own : to_z w64 (of_z w64 c.in-Some.lean.now) ≡ c.in-Some.lean.now = omega (arith, ints) in
+    let got : c.unwrap_or.result ≡ get_or c.args.leans.now (c.in-Some.i + 1) (pos 0) = search (rules, unwrap_or-slice_get) in
+    let after = next_lean_left c.in-Some.i c.args.leans.now c.in-Some.lean.now leans (cc) in
+    let next : to_z w64 (of_z w64 c.unwrap_or.result) ≡ next_lean leans = omega (arith, ints) in
+    let may = all_parted g.C.Curve.ground g.C.Curve.steps (Triable g.C.Curve.ground g.C.Curve.steps g.F.Fn c.args.keeps) c.loop-i.before c.in-Some.slot.now (iter_rest (zip_first (zip_first left))) c.in-Some.level.now (iter_rest (zip_second (zip_first left))) c.in-Some.lean.now leans turn.0.0.0 turn.0.0.1 turn.0.1 c.loop-i.invariant.6 in
+    may.0 _ (rw (own, next) refl)
 
 pub returns-then-not-keeps : goal.returns-then-not-keeps
 returns-then-not-keeps g c rule tries =
@@ -54,6 +67,7 @@ loop-i-preserved g c =
       rw turn.2 (left_more n c.args.leans.now c.in-Some.lean.now leans (cc)),
       outside_tail g.C.Curve.ground g.C.Curve.steps c.in-Some.slot.now slots c.in-Some.level.now levels turn.0.0.0 turn.0.0.1 c.loop-i.invariant.4,
       and_right (proper c.in-Some.slot.now) (all_proper slots) (rw turn.0.0.0 at c.loop-i.invariant.5),
+      (all_parted g.C.Curve.ground g.C.Curve.steps (Triable g.C.Curve.ground g.C.Curve.steps g.F.Fn c.args.keeps) c.loop-i.before c.in-Some.slot.now slots c.in-Some.level.now levels c.in-Some.lean.now leans turn.0.0.0 turn.0.0.1 turn.0.1 c.loop-i.invariant.6).1,
     )
 
 pub returns : goal.returns

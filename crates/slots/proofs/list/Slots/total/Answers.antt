@@ -32,8 +32,7 @@ loop-slot-preserved g c =
     let levels = iter_rest (zip_second left) in
     let room = rw turn.0 at c.loop-slot.invariant.1 in
     let fits = overflow_add-total g c in
-    let more = price_more g.C.Curve.ground g.C.Curve.steps c.loop-slot.before c.in-Some.slot.now slots c.in-Some.level.now levels turn.0 turn.1 in
-    (
+    let more = price_more g.C.Curve.ground g.C.Curve.steps c.loop-slot.before c.in-Some.slot.now slots c.in-Some.level.now levels turn.0 turn.1 in (
       omega (arith, ints),
       (omega (arith, ints), omega (arith, ints)),
       outside_tail g.C.Curve.ground g.C.Curve.steps c.in-Some.slot.now slots c.in-Some.level.now levels turn.0 turn.1 c.loop-slot.invariant.2,
