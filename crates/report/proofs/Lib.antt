@@ -1,2 +1,3 @@
 pub mod PlanPasses
 pub mod PlanTexts
+pub mod Writing

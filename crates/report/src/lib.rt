@@ -4,3 +4,4 @@
 mod checked;
 mod lines;
 pub mod report;
+pub mod text;

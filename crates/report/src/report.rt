@@ -5,31 +5,20 @@ ghost use Rattle.sheet.specs.Sheets.{decoded};
 ghost use Rattle.slots.specs.Limits.{most_slots};
 ghost use Rattle.report.specs.Reports.{plan_text, sheet_text, is_refused, said};
 
-use crate::checked::checked_plan;
-use crate::lines::put_lines;
+use crate::text::PlanText;
 use curve::Curve;
 use curve::written::Written;
 use day::day::Day;
 use sheet::read::read;
-use slots::limits::{MOST_SLOTS, TABLE_LENGTH};
+use slots::limits::MOST_SLOTS;
 use slots::slot::Slot;
 use std::alloc::{AllocError, Global};
 
-// The text of a day's plan, from what following the checked plan hands out.
+// The text of a day's plan, kept in memory.
 pub fn plan_report<C: Curve + Copy>(heap: Global, day: &Day<'_, C>) -> Result<String, AllocError>
     ensures { IfOk result (λ s. string_bytes s ≡ plan_text (terms_of C.Curve.ground C.Curve.steps day.now)) }
 {
-    let mut levels = [0u16; MOST_SLOTS];
-    let mut leans = [0i64; MOST_SLOTS];
-    let mut table = [0i64; TABLE_LENGTH];
-    let mut marks = [0u16; 2 * MOST_SLOTS];
-    // The buffers are long enough for the largest day, so the plan is not refused.
-    let plan = checked_plan(day, &mut levels, &mut leans, &mut table, &mut marks).unwrap();
-    let count = day.slots().len();
-    let cost = plan.cost();
-    let mut text = format!(in heap; "slots {count} cost {cost}\n")?;
-    put_lines(&mut text, day.slots(), plan)?;
-    Ok(text)
+    PlanText { day }.to_string(heap)
 }
 
 // What is said of a sheet: the text of its plan, or of its refusal.

@@ -6,7 +6,7 @@ use curve::limits::TOP;
 use curve::square::Square;
 use day::day::Day;
 use day::slot::Slot;
-use report::report::plan_report;
+use report::text::PlanText;
 
 // A slot that costs the square of the distance from a target, with a toll of 4 for each level up or down.
 fn slot(target: u16) -> Result<Slot<Square>, CurveFault> {
@@ -26,6 +26,6 @@ fn main(rt: HostRuntime) -> anyhow::Result<()> {
     day.add(cold)?;
     day.add(slot(20)?)?;
     day.add(cold)?;
-    rt.print(plan_report(rt.alloc(), &day)?)?;
+    rt.print(PlanText { day: &day })?;
     Ok(())
 }
