@@ -1,7 +1,9 @@
 -- The library reads hexadecimal digits as we do.
-use Rattle.std.proofs.Common.{◌≡◌, ℕ, ◌+◌, ◌*◌, ◌%◌, ◌<◌, eqb, ltb, List, [], ◌∷◌, length, Some, None, Ok, Err, Option, Result, sym, refl, ap, ◌∙◌, ◌⊎◌, inl, inr, IsErrAnd, arith}
-use Rattle.std.proofs.lemmas.Bool.{cond-true, lt-ltb, cases_Bool, eqb-true}
+use Rattle.std.proofs.Common.{◌≡◌, ℕ, ◌+◌, ◌*◌, ◌%◌, ◌<◌, false, eqb, ltb, List, [], ◌∷◌, length, Some, None, Ok, Err, Option, Result, sym, refl, ap, ◌∙◌, ◌⊎◌, inl, inr, IsErrAnd, arith}
+use Rattle.std.proofs.lemmas.Bool.{cond-true, lt-ltb, cases_Bool, and_cases, eqb-true}
 use Rattle.std.proofs.lemmas.Bool.Decides.{nat_tests}
+use Rattle.std.specs.Char.{is_ascii_hexdigit}
+use Rattle.std.specs.List.{list_all}
 use Rattle.std.specs.Result.{result_ok}
 use Rattle.hex.specs.Hex.{hex_digit_value, digit_or_error, pair_value, decode_of, decode_pairs, ◌>>=◌}
 use Rattle.hex.specs.declared.error.FromHexError.{FromHexError}
@@ -45,6 +47,23 @@ odd : (ds : List ℕ) → length ds % 2 ≡ 1 → hex_bytes ds ≡ None
 odd [] one = absurd (omega (arith, one))
 odd (h ∷ []) one = refl
 odd (h ∷ l ∷ ds) one = quiet (hex_byte h l) _ (λ b. none_then (hex_bytes ds) _ (odd ds (omega (arith, one))))
+
+no_digit : (c : ℕ) → is_ascii_hexdigit c ≡ false → hex_digit c ≡ None
+no_digit c other = grind (arith, nat_tests)
+
+-- a word with a character that is no digit says nothing
+pub no_bytes : (ds : List ℕ) → list_all is_ascii_hexdigit ds ≡ false → hex_bytes ds ≡ None
+no_bytes [] other = absurd (cc)
+no_bytes (h ∷ []) other = refl
+no_bytes (h ∷ l ∷ ds) other =
+    elim (and_cases (is_ascii_hexdigit h) _ other) [
+      | inl is ↦ none_then (hex_byte h l) _ (none_then (hex_digit h) _ (no_digit h is))
+      | inr after ↦
+          elim (and_cases (is_ascii_hexdigit l) _ after) [
+            | inl is ↦ none_then (hex_byte h l) _ (quiet (hex_digit h) _ (λ a. none_then (hex_digit l) _ (no_digit l is)))
+            | inr rest ↦ quiet (hex_byte h l) _ (λ b. none_then (hex_bytes ds) _ (no_bytes ds rest))
+          ]
+    ]
 
 decoded : (w : List ℕ) → result_ok (decode_of w) ≡ hex_bytes w
 decoded w =
