@@ -16,6 +16,7 @@ fn is_all_digits(word: &str) -> bool
 }
 
 // A byte for each two digits, the high one first, and one byte at least. A word with another character is no call, however little memory there is.
+#[tactic(auto, using(crate::proofs::Digits::says))]
 pub(crate) fn bytes_of(heap: Global, word: &str) -> Result<Vec<u8>, LineFault>
     ensures value { Says (λ v. v.items) result (bytes_of word.now) }
     ensures others { list_all is_ascii_hexdigit word.now ≡ false → result ≡ Err LineFault.NotACall }
