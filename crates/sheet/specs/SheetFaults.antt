@@ -1,6 +1,6 @@
--- Decoding a sheet record by record.
-use Rattle.std.specs.Prelude.{◌≡◌, ℕ, suc, ◌+◌, ◌-◌, ◌≤◌, Bool, true, false, cond, List, ◌∷◌, length, take, drop, Some, None, Ok, Err, Option, Result, nat_le, nat_lt, refl}
-use Rattle.std.proofs.Common.{sym, ap, arith, ltb-true, ltb-false, leb-true}
+-- Decoding a sheet record by record: what is left of it answers what the whole of it does.
+use Rattle.std.specs.Prelude.{◌≡◌, ℕ, suc, ◌+◌, ◌-◌, ◌<◌, ◌≤◌, Bool, true, false, cond, List, [], ◌∷◌, length, take, drop, Some, None, Ok, Err, Option, Result, nat_le, nat_lt, refl}
+use Rattle.std.proofs.Common.{sym, ◌∙◌, ap, arith, ltb-true, ltb-false, leb-true}
 use Rattle.curve.specs.declared.written.Written.{Written}
 use Rattle.slots.specs.declared.refusal.Refusal.TheVariants.{Full}
 use Rattle.slots.specs.declared.slot.Slot.{Slot}
@@ -9,7 +9,7 @@ use Rattle.sheet.specs.declared.kinds.Kind.{Kind}
 use Rattle.sheet.specs.Records.{decode_body, decode_record}
 use Rattle.sheet.specs.SlotFaults.{slot_fault, unless_fault}
 use Rattle.sheet.specs.SlotFields.{slot_in}
-use Rattle.sheet.specs.Sheets.{followed_by, go_on, decode}
+use Rattle.sheet.specs.Sheets.{followed_by, go_on, decode, answered}
 use Rattle.sheet.specs.declared.fault.RecordFault.{RecordFault}
 use Rattle.sheet.specs.declared.fault.RecordFault.TheVariants.{Refused, CutShort}
 use Rattle.sheet.specs.declared.fault.SheetFault.{SheetFault}
@@ -58,3 +58,58 @@ decode_by_record room slot place kind rest = by_test (nat_lt slot room) refl
         let past = ltb-false slot room e in
         let none : room - slot ≡ 0 = omega arith in
         rw none
+
+answer_followed : (s : Slot Written) (r : Result (List (Slot Written)) SheetFault) → answered (followed_by s r) ≡ answered r
+answer_followed s (Ok slots) = refl
+answer_followed s (Err fault) = refl
+
+module _ (slot place : ℕ) where
+  -- the length of the body, where the record gives a slot
+  abbrev pub size_told : Result (Slot Written × ℕ) RecordFault → Result ℕ SheetFault
+  size_told taken = go_on slot place taken (λ s n. Ok n)
+
+  pub answer_past :
+      (room : ℕ) (rest : List ℕ) (taken : Result (Slot Written × ℕ) RecordFault) (n : ℕ) → Ok n ≡ size_told taken →
+      answered (go_on slot place taken (more_from room slot place rest)) ≡ answered (decode (room - (slot + 1)) (slot + 1) (place + (1 + n)) (drop n rest))
+  answer_past room rest (Ok (s, m)) n e =
+      let same : n ≡ m = cc in
+      rw same (answer_followed s (decode (room - (slot + 1)) (slot + 1) (place + (1 + m)) (drop m rest)))
+  answer_past room rest (Err fault) n e = cc
+
+  pub answer_at :
+      {X : Type 0} (taken : Result (Slot Written × ℕ) RecordFault) (next : Slot Written → ℕ → Result X SheetFault) (fault : SheetFault) → Err fault ≡ size_told taken →
+      go_on slot place taken next ≡ Err fault
+  answer_at (Ok (s, m)) next fault e = cc
+  answer_at (Err f) next fault e = cc
+
+  -- and there is that much of it
+  pub size_within : (room kind : ℕ) (rest : List ℕ) (n : ℕ) → Ok n ≡ size_told (record_in room slot kind rest) → (slot < room) × (n ≤ length rest)
+  size_within room kind rest n = by_test (nat_lt slot room) refl
+    where
+      by_record : (taken : Result (Slot Written × ℕ) RecordFault) → decode_record kind rest ≡ taken → Ok n ≡ size_told taken → n ≤ length rest
+      by_record (Ok (s, m)) is e = let same : n ≡ m = cc in rw same (record_gives kind rest s m is).0
+      by_record (Err fault) is e = cc
+
+      by_test : (fits : Bool) → nat_lt slot room ≡ fits → Ok n ≡ size_told (cond fits (decode_record kind rest) (Err (Refused Full))) → (slot < room) × (n ≤ length rest)
+      by_test true test e = (ltb-true slot room test, by_record (decode_record kind rest) refl e)
+      by_test false test e = cc
+
+-- one record on: what is left answers the same
+pub answered_on :
+    (room slot place kind n : ℕ) (left rest after : List ℕ) (taken : Result (Slot Written × ℕ) RecordFault) → left ≡ kind ∷ rest → taken ≡ record_in room slot kind rest →
+    Ok n ≡ size_told slot place taken → after ≡ drop n rest →
+    answered (decode (room - slot) slot place left) ≡ answered (decode (room - (slot + 1)) (slot + 1) (place + (1 + n)) after)
+answered_on room slot place kind n left rest after taken front is told past =
+    rw (front, past) (ap answered (decode_by_record room slot place kind rest) ∙ rw (sym is) (answer_past slot place room rest taken n told))
+
+-- a record that is refused: the sheet is refused with its fault
+pub answered_fault :
+    (room slot place kind : ℕ) (left rest : List ℕ) (taken : Result (Slot Written × ℕ) RecordFault) (fault : SheetFault) → left ≡ kind ∷ rest → taken ≡ record_in room slot kind rest →
+    Err fault ≡ size_told slot place taken → decode (room - slot) slot place left ≡ Err fault
+answered_fault room slot place kind left rest taken fault front is told =
+    rw front (decode_by_record room slot place kind rest ∙ rw (sym is) (answer_at slot place taken (more_from room slot place rest) fault told))
+
+-- with nothing left there is no fault
+pub answered_all : (more slot place : ℕ) (left : List ℕ) → left ≡ [] → answered (decode more slot place left) ≡ Ok tt
+unfolding decode
+answered_all more slot place left none = rw none

@@ -6,6 +6,7 @@ use Rattle.curve.specs.WrittenCurves.{written_fault}
 use Rattle.curve.specs.declared.fault.CurveFault.{CurveFault}
 use Rattle.curve.specs.declared.written.Written.{Written}
 use Rattle.slots.specs.Slots.{bounds_hold, tolls_hold}
+use Rattle.slots.specs.declared.refusal.Refusal.{Refusal}
 use Rattle.slots.specs.declared.refusal.Refusal.TheVariants.{Bounds, Toll}
 use Rattle.slots.specs.declared.slot.Slot.{Slot}
 use Rattle.sheet.specs.SlotFaults.{unused_zero, first_fault, slot_fault, unless_fault}
@@ -19,8 +20,15 @@ pub no_fault : {X F : Type 0} (fault : Option F) (x y : X) → Ok y ≡ unless_f
 no_fault None x y e = refl
 no_fault (Some fault) x y e = cc
 
+-- the rules of a day with room, for a slot
+abbrev pub day_refusal : Slot Written → Option Refusal
+day_refusal s = broken ((bounds_hold s, Bounds) ∷ (tolls_hold s, Toll) ∷ [])
+
 pub curve_refused : (s : Slot Written) (f : CurveFault) → unused_zero s.curve ≡ true → written_fault s.curve ≡ Some f → slot_fault s ≡ Some (Curve f)
 curve_refused s f unused fault = rw (unused, fault)
+
+pub day_refused : (s : Slot Written) (r : Refusal) → unused_zero s.curve ≡ true → written_fault s.curve ≡ None → day_refusal s ≡ Some r → slot_fault s ≡ Some (Refused r)
+day_refused s r unused curve refusal = rw (unused, curve, refusal)
 
 -- a slot with no fault has passed every test
 pub record Passes (s : Slot Written) : Type 0 where
